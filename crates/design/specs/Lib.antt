@@ -1,0 +1,3 @@
+pub mod Designs
+pub mod Numbers
+pub mod Refusals

@@ -1,0 +1,3 @@
+// Designs in numbers: read, checked, counted.
+pub mod node;
+pub mod refusal;

@@ -1,0 +1,5 @@
+pub mod Fabrics
+pub mod Implements
+pub mod Numbers
+pub mod Laws
+pub mod Ticks
