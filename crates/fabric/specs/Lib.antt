@@ -2,4 +2,3 @@ pub mod Fabrics
 pub mod Implements
 pub mod Numbers
 pub mod Laws
-pub mod Ticks

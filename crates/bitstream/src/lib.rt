@@ -1,0 +1,1 @@
+// Bits and pins: a design put on the fabric.

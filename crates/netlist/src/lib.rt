@@ -1,0 +1,2 @@
+// Netlists of four-input cells, and the lowering of designs to them.
+pub mod parts;

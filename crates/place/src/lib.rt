@@ -1,0 +1,1 @@
+// Where each cell of a netlist stands on the fabric.

@@ -1,0 +1,1 @@
+// A way for every net over the fabric.
