@@ -1,1 +1,21 @@
 // Bits and pins: a design put on the fabric.
+ghost use mathlib.Core.Path.{_≡_};
+ghost use Rattle.bitstream.specs.Puts.{Put-says};
+use design::refusal::Refusal;
+use design::refusal::RefusalDebug;
+
+// What `put` answers.
+#[derive(Clone, Copy, Debug)]
+pub enum Made {
+    // the room holds the fabric's bits, and the pins are written
+    Placed,
+    // turned away
+    Refused(Refusal),
+}
+
+// Puts a design in numbers on a fabric of so many columns (`across`), rows (`down`) and tracks.
+pub fn put(across: u64, down: u64, tracks: u64, design: &[u16], room: &mut [u16], pins: &mut [u16]) -> Made
+    ensures { λ r. ⌜ Put-says (record { columns = across; rows = down; tracks = tracks }) (now (design .entry)) (now (room .entry)) (now (pins .entry)) r (now (room .exit)) (now (pins .exit)) ⌝ }
+{
+    Made::Refused(Refusal::Rows)
+}
