@@ -1,0 +1,6 @@
+pub mod Totals
+pub mod Valuation
+pub mod Fixpoint
+pub mod Ranks
+pub mod Ticks
+pub mod Implementation

@@ -1,6 +1,8 @@
 // Bits and pins: a design put on the fabric.
 ghost use mathlib.Core.Path.{_≡_};
 ghost use Rattle.bitstream.specs.Puts.{Put-says};
+pub mod theorem;
+
 use design::refusal::Refusal;
 use design::refusal::RefusalDebug;
 

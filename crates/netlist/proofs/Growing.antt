@@ -16,26 +16,34 @@ use Rattle.netlist.specs.Netlists.{net-level, Bits-of}
 use Rattle.netlist.specs.Building.{gate, blank, cell-at, input-of, looked-up, Fits, Carries, Gate-ok, Built, Extends}
 use Rattle.netlist.proofs.Gates.{Gives-op, gate-looks-up}
 
-pub extends-refl : (cs : List CellT) (n : ℕ) → Extends cs n cs n
-extends-refl cs n = record { more = omega arith; same = λ c h. refl }
+pub extends-refl : (f : ℕ) (cs : List CellT) (n : ℕ) → Extends f cs n cs n
+extends-refl f cs n = record { more = omega arith; same = λ c l h. refl }
 
-pub extends-trans : (cs cs₁ cs₂ : List CellT) (n n₁ n₂ : ℕ) → Extends cs n cs₁ n₁ → Extends cs₁ n₁ cs₂ n₂ → Extends cs n cs₂ n₂
-extends-trans cs cs₁ cs₂ n n₁ n₂ a b = record {
+pub extends-trans : (f : ℕ) (cs cs₁ cs₂ : List CellT) (n n₁ n₂ : ℕ) → Extends f cs n cs₁ n₁ → Extends f cs₁ n₁ cs₂ n₂ → Extends f cs n cs₂ n₂
+extends-trans f cs cs₁ cs₂ n n₁ n₂ a b = record {
     more = omega arith;
-    same = λ c h. b .same c (omega (arith, a .more)) ∙ a .same c h }
+    same = λ c l h. b .same c l (omega (arith, a .more)) ∙ a .same c l h }
 
--- one cell more
-pub extends-push : (cs : List CellT) (n : ℕ) (cell : CellT) → Extends cs n (set cs n cell) (n + 1)
-extends-push cs n cell = record {
+pub extends-from : (f f₁ : ℕ) (cs cs₁ : List CellT) (n n₁ : ℕ) → f ≤ f₁ → Extends f cs n cs₁ n₁ → Extends f₁ cs n cs₁ n₁
+extends-from f f₁ cs cs₁ n n₁ h a = record { more = a .more; same = λ c l u. a .same c (omega arith) u }
+
+-- one cell more at the end; a cell before the first one written
+pub extends-push : (f : ℕ) (cs : List CellT) (n : ℕ) (cell : CellT) → Extends f cs n (set cs n cell) (n + 1)
+extends-push f cs n cell = record {
     more = omega arith;
-    same = λ c h. let ne : c ≢ n = omega arith in getD-set-other cs n c cell blank ne }
+    same = λ c l h. let ne : c ≢ n = omega arith in getD-set-other cs n c cell blank ne }
 
-pub fits-before : (r : ℕ) (cs cs₁ : List CellT) (n n₁ : ℕ) (x h v : ℕ → Bool) → Extends cs n cs₁ n₁ → Fits r cs₁ n₁ x h v → Fits r cs n x h v
+pub extends-write : (f : ℕ) (cs : List CellT) (n r : ℕ) (cell : CellT) → r < f → Extends f cs n (set cs r cell) n
+extends-write f cs n r cell h = record {
+    more = omega arith;
+    same = λ c l u. let ne : c ≢ r = omega arith in getD-set-other cs r c cell blank ne }
+
+pub fits-before : (r : ℕ) (cs cs₁ : List CellT) (n n₁ : ℕ) (x h v : ℕ → Bool) → Extends r cs n cs₁ n₁ → Fits r cs₁ n₁ x h v → Fits r cs n x h v
 fits-before r cs cs₁ n n₁ x h v e f = record {
     held = f .held;
-    gates = λ c low high. f .gates c low (omega (arith, e .more)) ∙ ap (looked-up x v) (e .same c high) }
+    gates = λ c low high. f .gates c low (omega (arith, e .more)) ∙ ap (looked-up x v) (e .same c low high) }
 
-pub carries-more : (d : Design) (cs cs₁ : List CellT) (n n₁ : ℕ) (net : Net) (e : Expr) → Extends cs n cs₁ n₁ → Carries d cs n net e → Carries d cs₁ n₁ net e
+pub carries-more : (d : Design) (cs cs₁ : List CellT) (n n₁ : ℕ) (net : Net) (e : Expr) → Extends (d .registers) cs n cs₁ n₁ → Carries d cs n net e → Carries d cs₁ n₁ net e
 carries-more d cs cs₁ n n₁ net e ext c = record {
     input = c .input;
     cell = λ j is. omega (arith, c .cell j is, ext .more);
@@ -50,7 +58,15 @@ built-push d e nodes cs n ns cell b room ok = record {
       (λ (q : c ≡ n). rw q (rw (getD-set-same cs n cell blank) ok))
       (λ (q : c ≡ n → ⊥). rw (getD-set-other cs n c cell blank q) (b .gates c low (omega arith)))
       (cases-eq c n);
-    nets = λ m h. ⊎-elim inl (λ w. inr (carries-more d cs (set cs n cell) n (n + 1) (getD ns m Zero) (e m) (extends-push cs n cell) w)) (b .nets m h) }
+    nets = λ m h. ⊎-elim inl (λ w. inr (carries-more d cs (set cs n cell) n (n + 1) (getD ns m Zero) (e m) (extends-push (d .registers) cs n cell) w)) (b .nets m h) }
+
+-- a register's cell is written
+pub built-write : (d : Design) (e : ℕ → Expr) (nodes : ℕ) (cs : List CellT) (n : ℕ) (ns : List Net) (r : ℕ) (cell : CellT) →
+    Built d e nodes cs n ns → r < d .registers → Built d e nodes (set cs r cell) n ns
+built-write d e nodes cs n ns r cell b h = record {
+    registers = b .registers;
+    gates = λ c low high. let ne : c ≢ r = omega arith in rw (getD-set-other cs r c cell blank ne) (b .gates c low high);
+    nets = λ m l. ⊎-elim inl (λ w. inr (carries-more d cs (set cs r cell) n n (getD ns m Zero) (e m) (extends-write (d .registers) cs n r cell h) w)) (b .nets m l) }
 
 -- a node's net is noted
 pub built-note : (d : Design) (e : ℕ → Expr) (nodes : ℕ) (cs : List CellT) (n : ℕ) (ns : List Net) (m : ℕ) (net : Net) →
@@ -91,7 +107,7 @@ module _ (d : Design) (cs : List CellT) (n : ℕ) (a b : Net) (ea eb : Expr) (ca
       input = λ j q. let z : _≡_ {A = ℕ} 0 1 = cc in omega arith;
       cell = λ j q. let s : n ≡ j = cc in omega arith;
       level = λ ins regs x h v xs hs f.
-        let f₀ = fits-before (d .registers) cs (set cs n (gate t a b)) n (n + 1) x h v (extends-push cs n (gate t a b)) f in
+        let f₀ = fits-before (d .registers) cs (set cs n (gate t a b)) n (n + 1) x h v (extends-push (d .registers) cs n (gate t a b)) f in
         let here : cell-at (set cs n (gate t a b)) n ≡ gate t a b = getD-set-same cs n (gate t a b) blank room in
         let up : v n ≡ looked-up x v (cell-at (set cs n (gate t a b)) n) = f .gates n low (omega arith) in
         let la = ca .level ins regs x h v xs hs f₀ in

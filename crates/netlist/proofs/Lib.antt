@@ -1,3 +1,5 @@
+pub mod Finished
 pub mod Gates
 pub mod Growing
-pub mod Finished
+pub mod Laying
+pub mod Nodes

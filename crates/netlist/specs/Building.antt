@@ -67,10 +67,10 @@ pub record Built (d : Design) (e : ℕ → Expr) (nodes : ℕ) (cs : List CellT)
   pub gates : (c : ℕ) → d .registers ≤ c → c < count → Gate-ok d c (cell-at cs c)
   pub nets : (m : ℕ) → m < nodes → (getD ns m Zero ≡ Zero) ⊎ Carries d cs count (getD ns m Zero) (e m)
 
--- the cells below `count` are as they were, and there may be more
-pub record Extends (cs : List CellT) (count : ℕ) (cs₁ : List CellT) (count₁ : ℕ) : Type 0 where
+-- the cells from `first` to `count` are as they were, and there may be more
+pub record Extends (first : ℕ) (cs : List CellT) (count : ℕ) (cs₁ : List CellT) (count₁ : ℕ) : Type 0 where
   pub more : count ≤ count₁
-  pub same : (c : ℕ) → c < count → cell-at cs₁ c ≡ cell-at cs c
+  pub same : (c : ℕ) → first ≤ c → c < count → cell-at cs₁ c ≡ cell-at cs c
 
 -- registers below r have their cells, whose input carries what the register becomes
 abbrev pub Registers-done : Design → (cs : List CellT) (count r : ℕ) → Type 0

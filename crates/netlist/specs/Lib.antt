@@ -1,3 +1,4 @@
 pub mod Building
 pub mod Netlists
 pub mod NotYet
+pub mod Shapes

@@ -1,1 +1,3 @@
 // Where each cell of a netlist stands on the fabric.
+pub mod laws;
+pub mod plain;

@@ -1,1 +1,3 @@
 pub mod Layouts
+pub mod Plain
+pub mod Nets

@@ -1,0 +1,63 @@
+-- What nodes are laid out as, and which designs can be.
+-- Only proofs use these definitions: no promise to a user names them.
+use mathlib.Core.Path.{_≡_}
+use mathlib.Core.Bool.{Bool, true}
+use mathlib.Core.List.{List}
+use Prim.Native.Nat.{ℕ, _+_, _<_, _≤_}
+use Rattle.std.specs.declared.option.Option.the-variants.{None}
+use Rattle.design.specs.declared.node.Node.{Node}
+use Rattle.design.specs.declared.node.Node.the-variants.{Input, Register, Constant, And, Or, Xor, Not, Add, Less, Equal, Mux, Slice, Concat}
+use Rattle.design.specs.Designs.{Expr, Design, well-formed, cells}
+use Rattle.design.specs.Numbers.{nodes-of, reading-refusal, expr-at, design-in}
+use Rattle.netlist.specs.declared.parts.Net.{Net}
+use Rattle.netlist.specs.declared.parts.Net.the-variants.{Zero, Cell}
+use Rattle.netlist.specs.declared.parts.Net.the-variants.{Input as InputNet}
+use Rattle.netlist.specs.declared.shape.Shape.{Shape}
+use Rattle.netlist.specs.declared.shape.Shape.the-variants.{Leaf, Gate}
+use Rattle.netlist.specs.declared.work.Work.{Work}
+use Rattle.netlist.specs.NotYet.{node-landed}
+use Rattle.netlist.specs.Building.{Built, Extends, Carries}
+
+abbrev pub shape-of : Node → Shape
+shape-of (Input i) = Leaf (InputNet i)
+shape-of (Register r) = Leaf (Cell r)
+shape-of (Constant w v) = Leaf Zero
+shape-of (And a b) = Gate 8 a b
+shape-of (Or a b) = Leaf Zero
+shape-of (Xor a b) = Gate 6 a b
+shape-of (Not a) = Leaf Zero
+shape-of (Add a b) = Leaf Zero
+shape-of (Less a b) = Leaf Zero
+shape-of (Equal a b) = Leaf Zero
+shape-of (Mux c a b) = Leaf Zero
+shape-of (Slice l w a) = Leaf Zero
+shape-of (Concat a b) = Leaf Zero
+
+-- the expressions of the nodes
+abbrev pub expr-in : List ℕ → ℕ → Expr
+expr-in xs n = expr-at xs (nodes-of xs) n
+
+-- a list that is read as a design of single bits, with nodes that can be lowered
+pub record Bitwise (xs : List ℕ) : Type 0 where
+  pub readable : reading-refusal xs ≡ None
+  pub landed : (n : ℕ) → n < nodes-of xs → node-landed xs n ≡ true
+  pub inputs : (i : ℕ) → i < design-in xs .inputs → design-in xs .input-width i ≡ 1
+  pub registers : (r : ℕ) → r < design-in xs .registers → design-in xs .register-width r ≡ 1
+
+abbrev pub Built-in : List ℕ → Work → Type 0
+Built-in xs w = Built (design-in xs) (expr-in xs) (nodes-of xs) (w .cells) (w .count) (w .nets)
+
+-- what laying out a node asks, and what it gives
+pub record Lay-asks (xs : List ℕ) (w : Work) (n : ℕ) : Type 0 where
+  pub bitwise : Bitwise xs
+  pub built : Built-in xs w
+  pub there : n < nodes-of xs
+  pub formed : well-formed (design-in xs) (expr-in xs n) ≡ true
+  pub room : w .count + cells (design-in xs) (expr-in xs n) ≤ 1024
+
+pub record Lay-gives (xs : List ℕ) (w w₁ : Work) (n : ℕ) (net : Net) : Type 0 where
+  pub built : Built-in xs w₁
+  pub extends : Extends 0 (w .cells) (w .count) (w₁ .cells) (w₁ .count)
+  pub carries : Carries (design-in xs) (w₁ .cells) (w₁ .count) net (expr-in xs n)
+  pub few : w₁ .count ≤ w .count + cells (design-in xs) (expr-in xs n)
+  pub outputs : w₁ .outputs ≡ w .outputs

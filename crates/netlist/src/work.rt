@@ -1,0 +1,85 @@
+// A netlist under construction.
+ghost use mathlib.Core.Bool.{true, false};
+ghost use mathlib.Core.Path.{_≡_};
+ghost use Prim.Native.Nat.{ℕ, _+_, _<_};
+ghost use lib.ListN.{length, getD, set};
+ghost use Rattle.netlist.specs.declared.parts.Net.the-variants.{Zero};
+ghost use Rattle.netlist.specs.Building.{gate, blank, register-cell};
+use crate::parts::Cell;
+use crate::parts::Net;
+
+// The most cells that a netlist has, as the most that a fabric has; and the most nodes of a design.
+pub(crate) const MOST: usize = 1024;
+
+// The cells so far, registers first; the net of each node that is laid out, else `Zero`; the cells of the outputs so far.
+pub(crate) struct Work {
+    pub cells: [Cell; 1024],
+    pub count: usize,
+    pub nets: [Net; 1024],
+    pub outputs: [u16; 1024],
+}
+
+impl Cell {
+    // A cell of two inputs; bit k of the table is what it looks up where the first counts 1 and the second 2.
+    pub fn gate(table: u16, a: Net, b: Net) -> Cell
+        ensures { λ r. ⌜ r ≡ gate table a b ⌝ }
+    {
+        Cell { table, inputs: [a, b, Net::Zero, Net::Zero], holds: false, initial: false }
+    }
+
+    // A cell that holds the net.
+    pub fn register(next: Net, initial: bool) -> Cell
+        ensures { λ r. ⌜ r ≡ register-cell next initial ⌝ }
+    {
+        Cell { table: 2, inputs: [next, Net::Zero, Net::Zero, Net::Zero], holds: true, initial }
+    }
+
+    // A cell that shows 0.
+    pub fn blank() -> Cell
+        ensures { λ r. ⌜ r ≡ blank ⌝ }
+    {
+        Cell::gate(0, Net::Zero, Net::Zero)
+    }
+}
+
+impl Work {
+    // One cell more; its number.
+    pub(crate) fn push(&mut self, cell: Cell) -> u16
+        requires { ⌜ now self .count < 1024 ⌝ }
+        ensures number { λ r. ⌜ r ≡ now (self .entry) .count ⌝ }
+        ensures room { λ _. ⌜ length (now (self .entry) .cells) ≡ 1024 ⌝ }
+        ensures after { λ r. ⌜ now (self .exit) ≡ record {
+            cells = set (now (self .entry) .cells) (now (self .entry) .count) cell;
+            count = now (self .entry) .count + 1;
+            nets = now (self .entry) .nets;
+            outputs = now (self .entry) .outputs } ⌝ }
+    {
+        let number = self.count;
+        self.cells[number] = cell;
+        self.count = number + 1;
+        number as u16
+    }
+
+    // The net of node n, `Zero` till it is noted.
+    pub(crate) fn net(&self, n: u16) -> Net
+        requires { ⌜ n < 1024 ⌝ }
+        ensures { λ r. ⌜ r ≡ getD (now (self .entry) .nets) n Zero ⌝ }
+    {
+        self.nets[n as usize]
+    }
+
+    // Notes the net of node n, and gives it back.
+    pub(crate) fn note(&mut self, n: u16, net: Net) -> Net
+        requires { ⌜ n < 1024 ⌝ }
+        ensures same { λ r. ⌜ r ≡ net ⌝ }
+        ensures room { λ _. ⌜ length (now (self .entry) .nets) ≡ 1024 ⌝ }
+        ensures after { λ r. ⌜ now (self .exit) ≡ record {
+            cells = now (self .entry) .cells;
+            count = now (self .entry) .count;
+            nets = set (now (self .entry) .nets) n net;
+            outputs = now (self .entry) .outputs } ⌝ }
+    {
+        self.nets[n as usize] = net;
+        net
+    }
+}
