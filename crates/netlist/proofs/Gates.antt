@@ -2,7 +2,9 @@
 use mathlib.Core.Path.{_≡_, refl, ap, sym, _∙_}
 use mathlib.Core.Bool.{Bool, true, false, _&&_, xor}
 use mathlib.Core.List.{List, [], _∷_}
-use Prim.Native.Nat.{ℕ, _+_, _*_}
+use Prim.Native.Nat.{ℕ, _+_, _*_, _%_, _/_}
+use native.Mathlib.Nat.{div-one}
+use lib.Dec.{eqb}
 use Rattle.design.specs.Designs.{bit, word}
 use Rattle.netlist.specs.declared.parts.Net.{Net}
 use Rattle.netlist.specs.declared.parts.Net.the-variants.{Zero, Input, Cell}
@@ -44,3 +46,8 @@ pass-looks-up x v a = pass-table (net-level x v a)
 pub register-looks-up : (x v : ℕ → Bool) (a : Net) (i : Bool) → looked-up x v (register-cell a i) ≡ net-level x v a
 unfolding looked-up net-level
 register-looks-up x v a i = pass-table (net-level x v a)
+
+-- the low bit of a number
+pub low-bit : (n : ℕ) → eqb (n % 2) 1 ≡ word n 0
+unfolding word
+low-bit n = rw div-one refl

@@ -7,7 +7,7 @@ use Prim.Native.Nat.{ℕ, _+_, _<_, _≤_}
 use Rattle.std.specs.declared.option.Option.the-variants.{None}
 use Rattle.design.specs.declared.node.Node.{Node}
 use Rattle.design.specs.declared.node.Node.the-variants.{Input, Register, Constant, And, Or, Xor, Not, Add, Less, Equal, Mux, Slice, Concat}
-use Rattle.design.specs.Designs.{Expr, Design, well-formed, cells}
+use Rattle.design.specs.Designs.{Expr, Design, Sound, well-formed, cells, total, register-cells, output-cells, plain-cells}
 use Rattle.design.specs.Numbers.{nodes-of, reading-refusal, expr-at, design-in}
 use Rattle.netlist.specs.declared.parts.Net.{Net}
 use Rattle.netlist.specs.declared.parts.Net.the-variants.{Zero, Cell}
@@ -16,7 +16,7 @@ use Rattle.netlist.specs.declared.shape.Shape.{Shape}
 use Rattle.netlist.specs.declared.shape.Shape.the-variants.{Leaf, Gate}
 use Rattle.netlist.specs.declared.work.Work.{Work}
 use Rattle.netlist.specs.NotYet.{node-landed}
-use Rattle.netlist.specs.Building.{Built, Extends, Carries}
+use Rattle.netlist.specs.Building.{Built, Extends, Carries, Registers-done, Outputs-done}
 
 abbrev pub shape-of : Node → Shape
 shape-of (Input i) = Leaf (InputNet i)
@@ -61,3 +61,22 @@ pub record Lay-gives (xs : List ℕ) (w w₁ : Work) (n : ℕ) (net : Net) : Typ
   pub carries : Carries (design-in xs) (w₁ .cells) (w₁ .count) net (expr-in xs n)
   pub few : w₁ .count ≤ w .count + cells (design-in xs) (expr-in xs n)
   pub outputs : w₁ .outputs ≡ w .outputs
+
+-- a design that is lowered
+pub record Lowerable (xs : List ℕ) : Type 0 where
+  pub bitwise : Bitwise xs
+  pub sound : Sound (design-in xs)
+  pub small : plain-cells (design-in xs) ≤ 1024
+
+-- the registers below r are laid out, and the cells so far are no more than the plain layout takes for them
+pub record Registers-at (xs : List ℕ) (w : Work) (r : ℕ) : Type 0 where
+  pub built : Built-in xs w
+  pub done : Registers-done (design-in xs) (w .cells) (w .count) r
+  pub few : w .count + r ≤ design-in xs .registers + total r (register-cells (design-in xs))
+
+-- all registers and the outputs below o
+pub record Outputs-at (xs : List ℕ) (w : Work) (o : ℕ) : Type 0 where
+  pub built : Built-in xs w
+  pub registers : Registers-done (design-in xs) (w .cells) (w .count) (design-in xs .registers)
+  pub outputs : Outputs-done (design-in xs) (w .cells) (w .count) (w .outputs) o
+  pub few : w .count ≤ total (design-in xs .registers) (register-cells (design-in xs)) + total o (output-cells (design-in xs))

@@ -2,7 +2,8 @@
 ghost use mathlib.Core.Path.{_≡_};
 ghost use Prim.Native.Nat.{ℕ, _+_, _<_, _≤_};
 ghost use lib.ListN.{set};
-ghost use Rattle.netlist.specs.Shapes.{Lay-asks, Lay-gives};
+ghost use Rattle.design.specs.Numbers.{design-in};
+ghost use Rattle.netlist.specs.Shapes.{Lay-asks, Lay-gives, Lowerable, Registers-at, Outputs-at};
 use crate::parts::Cell;
 use crate::parts::Net;
 use crate::shape::Shape;
@@ -28,5 +29,31 @@ fn lay(design: Encoded<'_>, work: &mut Work, n: u16) -> Net
         }
     } else {
         known
+    }
+}
+
+// The cells of the registers, each with the net of what it becomes.
+fn lay_registers(design: Encoded<'_>, work: &mut Work)
+    requires lowerable { ⌜ Lowerable (now (design .numbers)) ⌝ }
+    requires begun { ⌜ Registers-at (now (design .numbers)) (now work) 0 ⌝ }
+    ensures { λ _. ⌜ Registers-at (now (design .entry .numbers)) (now (work .exit)) (design-in (now (design .entry .numbers)) .registers) ⌝ }
+{
+    for r in 0..design.registers() {
+        let register = design.register(r);
+        let net = lay(design, work, register.next);
+        work.hold(r, Cell::register(net, register.initial % 2 == 1));
+    }
+}
+
+// The cells of the outputs, each of which passes a net on.
+fn lay_outputs(design: Encoded<'_>, work: &mut Work)
+    requires lowerable { ⌜ Lowerable (now (design .numbers)) ⌝ }
+    requires begun { ⌜ Outputs-at (now (design .numbers)) (now work) 0 ⌝ }
+    ensures { λ _. ⌜ Outputs-at (now (design .entry .numbers)) (now (work .exit)) (design-in (now (design .entry .numbers)) .outputs) ⌝ }
+{
+    for o in 0..design.outputs() {
+        let net = lay(design, work, design.output(o));
+        let cell = work.push(Cell::gate(2, net, Net::Zero));
+        work.show(o, cell);
     }
 }

@@ -82,4 +82,30 @@ impl Work {
         self.nets[n as usize] = net;
         net
     }
+
+    // Writes the cell of register r.
+    pub(crate) fn hold(&mut self, r: u16, cell: Cell)
+        requires { ⌜ r < 1024 ⌝ }
+        ensures room { λ _. ⌜ length (now (self .entry) .cells) ≡ 1024 ⌝ }
+        ensures after { λ _. ⌜ now (self .exit) ≡ record {
+            cells = set (now (self .entry) .cells) r cell;
+            count = now (self .entry) .count;
+            nets = now (self .entry) .nets;
+            outputs = now (self .entry) .outputs } ⌝ }
+    {
+        self.cells[r as usize] = cell;
+    }
+
+    // Notes the cell of output o.
+    pub(crate) fn show(&mut self, o: u16, cell: u16)
+        requires { ⌜ o < 1024 ⌝ }
+        ensures room { λ _. ⌜ length (now (self .entry) .outputs) ≡ 1024 ⌝ }
+        ensures after { λ _. ⌜ now (self .exit) ≡ record {
+            cells = now (self .entry) .cells;
+            count = now (self .entry) .count;
+            nets = now (self .entry) .nets;
+            outputs = set (now (self .entry) .outputs) o cell } ⌝ }
+    {
+        self.outputs[o as usize] = cell;
+    }
 }
