@@ -1,4 +1,6 @@
+pub mod Code
 pub mod Fabrics
 pub mod Implements
-pub mod Numbers
 pub mod Laws
+pub mod Numbers
+pub mod Ticks

@@ -1,3 +1,12 @@
 // The fabric: cells and tracks, what its bits make of it, and how it settles.
-pub mod parts;
+pub mod grid;
 pub mod laws;
+pub mod parts;
+mod places;
+mod reading;
+mod sweeping;
+#[cfg(test)]
+mod tests;
+pub mod ticking;
+mod wiring;
+mod writing;

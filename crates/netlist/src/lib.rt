@@ -1,5 +1,7 @@
 // Netlists of four-input cells, and the lowering of designs to them.
+mod landed;
+pub mod lowering;
+pub mod netlists;
 pub mod parts;
-mod lowering;
 mod shape;
 mod work;
