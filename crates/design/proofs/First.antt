@@ -56,3 +56,6 @@ none-first test (suc n) all =
 pub first-start : (test : ℕ → Bool) → first-failing test 0 ≡ None
 unfolding first-failing
 first-start test = refl
+
+pub first-end : (test : ℕ → Bool) (k n : ℕ) → k ≡ n → first-failing test k ≡ None → first-failing test n ≡ None
+first-end test k n e h = rw e at h

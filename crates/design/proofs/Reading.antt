@@ -22,11 +22,11 @@ pub record Readable (xs : List ℕ) : Type 0 where
   pub registers : (r : ℕ) → r < registers-of xs → register-node xs r < nodes-of xs
   pub outputs : (o : ℕ) → o < outputs-of xs → output-node xs o < nodes-of xs
 
-neither : {X : Type 0} (o p : Option X) → orOther o p ≡ None → (o ≡ None) × (p ≡ None)
+pub neither : {X : Type 0} (o p : Option X) → orOther o p ≡ None → (o ≡ None) × (p ≡ None)
 neither None p h = (refl, h)
 neither (Some x) p h = absurd (let z : _≡_ {A = ℕ} 0 1 = cc in omega arith)
 
-unmapped : {X Y : Type 0} (f : X → Y) (o : Option X) → mapped f o ≡ None → o ≡ None
+pub unmapped : {X Y : Type 0} (f : X → Y) (o : Option X) → mapped f o ≡ None → o ≡ None
 unmapped f None h = refl
 unmapped f (Some x) h = absurd (let z : _≡_ {A = ℕ} 0 1 = cc in omega arith)
 

@@ -1,6 +1,13 @@
 // Designs in numbers: read, checked, counted.
-pub mod node;
-pub mod refusal;
-mod layout;
-mod faults;
+mod analysis;
+pub mod counts;
 pub mod encoded;
+mod faults;
+mod layout;
+pub mod node;
+mod pass;
+pub mod refusal;
+pub mod soundness;
+mod summary;
+#[cfg(test)]
+mod tests;

@@ -1,7 +1,9 @@
 pub mod Finished
 pub mod Gates
 pub mod Growing
+pub mod LandedTests
 pub mod Laying
 pub mod Nodes
 pub mod Roots
 pub mod Totals
+pub mod Whole

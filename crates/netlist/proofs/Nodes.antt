@@ -60,7 +60,7 @@ module _ (xs : List ℕ) (b : Bitwise xs) where
   width-of : (n : ℕ) (node : Node) → names-below n node ≡ true → kind-landed node ≡ true →
       ((m : ℕ) → m < n → well-formed (design-in xs) (expr-in xs m) ≡ true → width (design-in xs) (expr-in xs m) ≡ 1) →
       well-formed (design-in xs) (expr-of (expr-in xs) node) ≡ true → width (design-in xs) (expr-of (expr-in xs) node) ≡ 1
-  unfolding expr-of width well-formed kind-landed names-below
+  unfolding expr-of width well-formed names-below
   width-of n (Input i) l k below w = b .inputs i (ltb-true i (design-in xs .inputs) w)
   width-of n (Register r) l k below w = b .registers r (ltb-true r (design-in xs .registers) w)
   width-of n (Constant v u) l k below w = absurd (false≢true k)
@@ -155,7 +155,7 @@ module _ (xs : List ℕ) (b : Bitwise xs) (n : ℕ) (there : n < nodes-of xs) wh
 
   leaf-of : (node : Node) (net : Net) (cs : List CellT) (count : ℕ) → kind-landed node ≡ true → well-formed (design-in xs) (expr-of (expr-in xs) node) ≡ true →
       design-in xs .registers ≤ count → Leaf net ≡ shape-of node → Carries (design-in xs) cs count net (expr-of (expr-in xs) node)
-  unfolding expr-of well-formed kind-landed
+  unfolding expr-of well-formed
   leaf-of (Input i) net cs count k w low s = let q : net ≡ _ = cc in rw q (input-carries (design-in xs) cs count i (ltb-true i (design-in xs .inputs) w) (b .inputs))
   leaf-of (Register r) net cs count k w low s =
       let q : net ≡ _ = cc in rw q (register-carries (design-in xs) cs count r (ltb-true r (design-in xs .registers) w) low (b .registers))

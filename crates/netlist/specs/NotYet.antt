@@ -15,7 +15,7 @@ use Rattle.design.specs.declared.refusal.Refusal.the-variants.{NotYet}
 use Rattle.design.specs.Numbers.{inputs-of, registers-of, nodes-of, input-place, register-place, node-in, first-failing}
 
 -- inputs, registers, and, xor
-unfoldable pub kind-landed : Node → Bool
+abbrev pub kind-landed : Node → Bool
 kind-landed (Input i) = true
 kind-landed (Register r) = true
 kind-landed (Constant w v) = false
@@ -40,7 +40,7 @@ input-single xs i = eqb (getD xs (input-place i) 0) 1
 unfoldable pub register-single : List ℕ → ℕ → Bool
 register-single xs r = eqb (getD xs (register-place xs r) 0) 1
 
-unfoldable pub wide : List ℕ → Bool
+abbrev pub wide : List ℕ → Bool
 wide xs = isSome (first-failing (input-single xs) (inputs-of xs)) || isSome (first-failing (register-single xs) (registers-of xs))
 
 -- the first node of a kind that can't be lowered; else, where some word is wider than a bit, how many nodes there are

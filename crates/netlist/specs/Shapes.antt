@@ -3,20 +3,27 @@
 use mathlib.Core.Path.{_≡_}
 use mathlib.Core.Bool.{Bool, true}
 use mathlib.Core.List.{List}
-use Prim.Native.Nat.{ℕ, _+_, _<_, _≤_}
+use Prim.Native.Nat.{ℕ, _+_, _<_, _≤_, min}
+use lib.Dec.{ltb}
+use Rattle.std.specs.declared.option.Option.{Option}
 use Rattle.std.specs.declared.option.Option.the-variants.{None}
+use Rattle.std.specs.Options.{orOther, whenTrue}
+use Rattle.design.specs.declared.refusal.Refusal.{Refusal}
+use Rattle.design.specs.declared.refusal.Refusal.the-variants.{Cells}
 use Rattle.design.specs.declared.node.Node.{Node}
 use Rattle.design.specs.declared.node.Node.the-variants.{Input, Register, Constant, And, Or, Xor, Not, Add, Less, Equal, Mux, Slice, Concat}
-use Rattle.design.specs.Designs.{Expr, Design, Sound, well-formed, cells, total, register-cells, output-cells, plain-cells}
-use Rattle.design.specs.Numbers.{nodes-of, reading-refusal, expr-at, design-in}
+use Rattle.design.specs.Designs.{Expr, Design, Sound, well-formed, cells, total, register-cells, output-cells, plain-cells, output-bits}
+use Rattle.design.specs.Numbers.{nodes-of, reading-refusal, soundness-refusal, expr-at, design-in}
 use Rattle.netlist.specs.declared.parts.Net.{Net}
 use Rattle.netlist.specs.declared.parts.Net.the-variants.{Zero, Cell}
 use Rattle.netlist.specs.declared.parts.Net.the-variants.{Input as InputNet}
 use Rattle.netlist.specs.declared.shape.Shape.{Shape}
 use Rattle.netlist.specs.declared.shape.Shape.the-variants.{Leaf, Gate}
 use Rattle.netlist.specs.declared.work.Work.{Work}
-use Rattle.netlist.specs.NotYet.{node-landed}
-use Rattle.netlist.specs.Building.{Built, Extends, Carries, Registers-done, Outputs-done}
+use Rattle.netlist.specs.declared.netlists.Netlist.{Netlist as NetlistT}
+use Rattle.netlist.specs.NotYet.{node-landed, lowering-refusal}
+use Rattle.netlist.specs.Netlists.{Netlist, Lowers}
+use Rattle.netlist.specs.Building.{netlist-in, Built, Extends, Carries, Registers-done, Outputs-done}
 
 abbrev pub shape-of : Node → Shape
 shape-of (Input i) = Leaf (InputNet i)
@@ -80,3 +87,21 @@ pub record Outputs-at (xs : List ℕ) (w : Work) (o : ℕ) : Type 0 where
   pub registers : Registers-done (design-in xs) (w .cells) (w .count) (design-in xs .registers)
   pub outputs : Outputs-done (design-in xs) (w .cells) (w .count) (w .outputs) o
   pub few : w .count ≤ total (design-in xs .registers) (register-cells (design-in xs)) + total o (output-cells (design-in xs))
+
+-- the netlist that the code's stands for
+abbrev pub netlist-of : NetlistT → Netlist
+netlist-of n = netlist-in (n .cells) (n .count) (n .outputs)
+
+-- what a lowered design's netlist is: it computes what the design computes, and takes no more cells than the plain layout
+pub record Lowered (d : Design) (n : NetlistT) : Type 0 where
+  pub lowers : Lowers d (netlist-of n)
+  pub few : n .count ≤ plain-cells d
+  pub outputs : (m : ℕ) → m < output-bits d → netlist-of n .output m < n .count
+  pub apart : (m k : ℕ) → m < output-bits d → k < output-bits d → netlist-of n .output m ≡ netlist-of n .output k → m ≡ k
+
+-- why a readable design is not lowered: it isn't sound; it takes more cells than any fabric has; it can't be lowered yet
+unfoldable pub lower-refusal : List ℕ → Option Refusal
+lower-refusal xs =
+    orOther (soundness-refusal (design-in xs))
+    (orOther (whenTrue (ltb 1024 (plain-cells (design-in xs))) (Cells (min 65536 (plain-cells (design-in xs)))))
+    (lowering-refusal xs))

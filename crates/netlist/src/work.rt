@@ -8,10 +8,8 @@ ghost use Rattle.netlist.specs.Building.{gate, blank, register-cell};
 use crate::parts::Cell;
 use crate::parts::Net;
 
-// The most cells that a netlist has, as the most that a fabric has; and the most nodes of a design.
-pub(crate) const MOST: usize = 1024;
-
 // The cells so far, registers first; the net of each node that is laid out, else `Zero`; the cells of the outputs so far.
+#[derive(Drop)]
 pub(crate) struct Work {
     pub cells: [Cell; 1024],
     pub count: usize,
@@ -42,7 +40,30 @@ impl Cell {
     }
 }
 
+// Nets that are all `Zero`.
+fn unknown<const N: usize>() -> [Net; N]
+    ensures { λ r. ⌜ ((k : ℕ) → getD r k Zero ≡ Zero) ⌝ }
+{
+    [Net::Zero; N]
+}
+
+fn blank_cells<const N: usize>() -> [Cell; N] {
+    [Cell::blank(); N]
+}
+
+fn zeros<const N: usize>() -> [u16; N] {
+    [0; N]
+}
+
 impl Work {
+    // Only the registers' cells are there, not written yet.
+    pub(crate) fn new(registers: u16) -> Work
+        ensures count { λ r. ⌜ r .count ≡ registers ⌝ }
+        ensures nets { λ r. ⌜ ((k : ℕ) → getD (r .nets) k Zero ≡ Zero) ⌝ }
+    {
+        Work { cells: blank_cells(), count: registers as usize, nets: unknown(), outputs: zeros() }
+    }
+
     // One cell more; its number.
     pub(crate) fn push(&mut self, cell: Cell) -> u16
         requires { ⌜ now self .count < 1024 ⌝ }
