@@ -1,7 +1,9 @@
 // Bits and pins: a design put on the fabric.
 ghost use mathlib.Core.Path.{_≡_};
 ghost use Rattle.bitstream.specs.Puts.{Put-says};
+mod plans;
 pub mod theorem;
+mod writing;
 
 use design::refusal::Refusal;
 use design::refusal::RefusalDebug;

@@ -1,15 +1,11 @@
 -- Sources and the numbers that stand for them.
-use mathlib.Core.Path.{_≡_, refl, sym, ap}
-use mathlib.Core.Bool.{true, false, cond}
+use mathlib.Core.Path.{_≡_, refl}
 use Prim.Native.Nat.{ℕ, _+_, _*_, _-_, _<_, _≤_, _/_, _%_}
 use native.Mathlib.Omega.{arith}
-use lib.Dec.{ltb, eqb}
-use Rattle.std.proofs.shelf.Bits.{div-mul-add, mod-mul-add}
 use Rattle.std.proofs.shelf.Ways.{tells}
 use Rattle.fabric.specs.declared.parts.Side.{Side}
 use Rattle.fabric.specs.declared.parts.Side.the-variants.{Right, Below, Left, Above}
-use Rattle.fabric.specs.declared.parts.Source.{Source}
-use Rattle.fabric.specs.declared.parts.Source.the-variants.{Nothing, Own, Track}
+use Rattle.fabric.specs.declared.parts.Source.the-variants.{Track}
 use Rattle.fabric.specs.Numbers.{side-number, source-of, track-from}
 use Rattle.fabric.specs.Code.{side-at}
 

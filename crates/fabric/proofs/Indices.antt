@@ -1,13 +1,11 @@
 -- Bounds of the places of signals and pads, and the signal at a place.
-use mathlib.Core.Path.{_≡_, refl, sym, ap, _∙_}
-use mathlib.Core.Bool.{true, false, cond}
-use mathlib.Core.List.{List}
-use Prim.Native.Nat.{ℕ, _+_, _*_, _-_, _<_, _≤_, _/_, _%_}
+use mathlib.Core.Path.{_≡_}
+use mathlib.Core.Bool.{false}
+use Prim.Native.Nat.{ℕ, _+_, _*_, _<_, _≤_, _/_, _%_}
 use native.Mathlib.Omega.{arith}
-use lib.Dec.{ltb, eqb}
 use Rattle.std.proofs.shelf.Bits.{mul-add-lt, div-below, mod-below}
 use Rattle.fabric.specs.declared.parts.Side.{Side}
-use Rattle.fabric.specs.declared.parts.Side.the-variants.{Right, Below, Left, Above}
+use Rattle.fabric.specs.declared.parts.Side.the-variants.{Left, Above}
 use Rattle.fabric.specs.Fabrics.{Size, cell-count, at-edge, neighbour}
 use Rattle.fabric.specs.Numbers.{side-number, pad-place, pads-length}
 use Rattle.fabric.specs.Code.{track-place, out-place}

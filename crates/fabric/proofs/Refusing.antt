@@ -1,6 +1,6 @@
 -- Which refusal of a tick comes first.
 use mathlib.Core.Path.{_≡_, refl, sym, ap, subst, _∙_}
-use mathlib.Core.Bool.{Bool, true, false}
+use mathlib.Core.Bool.{true, false}
 use mathlib.Core.List.{List}
 use mathlib.Core.Logic.{_⊎_}
 use Prim.Native.Nat.{ℕ}
@@ -46,14 +46,24 @@ module _ (z y : Size) (bits held pads outs : List ℕ) (s : size-refusal z ≡ N
           pub outs-refused : (length outs ≡ d → ⊥) → tick-refusal z bits held pads outs ≡ Some OutputsLength
           unfolding tick-refusal
           outs-refused o =
-              simp (s, same-test (length bits) a room-length ra ha, same-test (length held) b cell-count rb hb, same-test (length pads) c pads-length rc hc,
-                other-test (length outs) d pads-length rd o)
+              simp (
+                s,
+                same-test (length bits) a room-length ra ha,
+                same-test (length held) b cell-count rb hb,
+                same-test (length pads) c pads-length rc hc,
+                other-test (length outs) d pads-length rd o,
+              )
 
           pub none-refused : length outs ≡ d → tick-refusal z bits held pads outs ≡ None
           unfolding tick-refusal
           none-refused o =
-              simp (s, same-test (length bits) a room-length ra ha, same-test (length held) b cell-count rb hb, same-test (length pads) c pads-length rc hc,
-                same-test (length outs) d pads-length rd o)
+              simp (
+                s,
+                same-test (length bits) a room-length ra ha,
+                same-test (length held) b cell-count rb hb,
+                same-test (length pads) c pads-length rc hc,
+                same-test (length outs) d pads-length rd o,
+              )
 
 -- What a tick that isn't turned away says.
 abbrev pub Plays : Size → (bits held pads outs : List ℕ) → Done → (held₁ outs₁ : List ℕ) → Type 0

@@ -1,12 +1,11 @@
 -- The state that a list of levels stands for, and when sweeps of it have settled.
 use mathlib.Core.Path.{_≡_, refl, sym, ap, subst, _∙_}
-use mathlib.Core.Bool.{Bool, true, false, cond}
+use mathlib.Core.Bool.{Bool, false}
 use mathlib.Core.List.{List, [], _∷_}
-use mathlib.Core.Logic.{_⊎_, ⊎-elim}
+use mathlib.Core.Logic.{⊎-elim}
 use Prim.Native.Nat.{ℕ, zero, suc, _+_, _*_, _-_, _<_, _≤_, _/_, _%_}
 use native.Mathlib.Numerals.{add-one}
 use native.Mathlib.Omega.{arith}
-use lib.Dec.{ltb, eqb}
 use lib.ListN.{length, getD, take, length-take}
 use Rattle.std.proofs.shelf.Lists.{ext-getD}
 use Rattle.std.proofs.shelf.Tests.{ne-eqb, cases-eq}
@@ -52,9 +51,10 @@ at-track z g c s t m =
 pub agree-from-places : (z : Size) (xs : List Bool) (g : Signals) → ((k : ℕ) → k < signal-count z → getD xs k false ≡ signal-at z g k) → Agree z (state-of z xs) g
 unfolding state-of
 agree-from-places z xs g all = record {
-    cells = λ c l. all (c * per-signal z) (cell-below (cell-count z) (z .tracks) c l) ∙ signal-cell z g (c * per-signal z) c
-        (column-of (per-signal z) (c * per-signal z) c 0 (omega arith) (omega arith)) (row-of (per-signal z) (c * per-signal z) c 0 (omega arith) (omega arith));
-    tracks = λ c s t l m. all (track-place z c s t) (track-below (cell-count z) (z .tracks) c (side-number s) t l (side-number-small s) m) ∙ at-track z g c s t m }
+  cells = λ c l. all (c * per-signal z) (cell-below (cell-count z) (z .tracks) c l) ∙ signal-cell z g (c * per-signal z) c
+      (column-of (per-signal z) (c * per-signal z) c 0 (omega arith) (omega arith)) (row-of (per-signal z) (c * per-signal z) c 0 (omega arith) (omega arith));
+  tracks = λ c s t l m. all (track-place z c s t) (track-below (cell-count z) (z .tracks) c (side-number s) t l (side-number-small s) m) ∙ at-track z g c s t m;
+}
 
 -- 2. The signals of the state of a list are the list.
 
@@ -73,7 +73,7 @@ at-place z xs k p =
     ⊎-elim
     (λ e. signal-cell z (state-of z xs) k (k / P) e refl ∙ ap (λ i. getD xs i false) (omega arith))
     (λ o. signal-track z (state-of z xs) k (k / P) r (r / T) (r % T) (side-at (r / T)) o refl refl refl refl refl
-      ∙ ap (λ i. getD xs i false) (omega (arith, rest-of T r p (omega arith))))
+    ∙ ap (λ i. getD xs i false) (omega (arith, rest-of T r p (omega arith))))
     (cases-eq (k % P) 0)
 
 agree-at-place : (z : Size) (g h : Signals) (k : ℕ) → 0 < z .tracks → k < signal-count z → Agree z g h → signal-at z g k ≡ signal-at z h k
@@ -81,7 +81,7 @@ unfolding signal-at
 agree-at-place z g h k p l a =
     let e = a .cells (k / per-signal z) (div-below k (per-signal z) (cell-count z) (omega arith) l) in
     let f = a .tracks (k / per-signal z) (side-at ((k % per-signal z - 1) / z .tracks)) ((k % per-signal z - 1) % z .tracks)
-        (div-below k (per-signal z) (cell-count z) (omega arith) l) (mod-below (k % per-signal z - 1) (z .tracks) p) in
+    (div-below k (per-signal z) (cell-count z) (omega arith) l) (mod-below (k % per-signal z - 1) (z .tracks) p) in
     cc
 
 pub same-from-agree : (z : Size) (xs ys : List Bool) → 0 < z .tracks → length xs ≡ signal-count z → length ys ≡ signal-count z →
@@ -108,7 +108,7 @@ module _ (z : Size) (b : Config) (held : ℕ → Bool) (p : Pads) where
   unfolding swept
   swept-more n xs ys ws e a s =
       rw (e, add-one) (agree-trans z (state-of z ys) (sweep z b held p (state-of z xs)) (sweep z b held p (swept n z b held p dark)) s
-        (sweep-agrees z b held p (state-of z xs) (swept n z b held p dark) a))
+      (sweep-agrees z b held p (state-of z xs) (swept n z b held p dark) a))
 
   pub settled : (n : ℕ) (xs ys : List Bool) → n ≤ enough z → Agree z (state-of z xs) (swept n z b held p dark) →
       Agree z (state-of z ys) (sweep z b held p (state-of z xs)) → xs ≡ ys → Settles z b held p × Agree z (state-of z xs) (final z b held p)
@@ -116,10 +116,12 @@ module _ (z : Size) (b : Config) (held : ℕ → Bool) (p : Pads) where
   settled n xs ys l a s e =
       let g = state-of z xs in
       let f : Agree z g (sweep z b held p g) = subst (λ i. Agree z (state-of z i) (sweep z b held p (state-of z xs))) (sym e) s in
-      let h : Agree z g (final z b held p) = later g n a f (enough z - n) (enough z) (omega arith) in
-      (agree-trans z (sweep z b held p (final z b held p)) (sweep z b held p g) (final z b held p)
-        (sweep-agrees z b held p (final z b held p) g (agree-sym z g (final z b held p) h))
-        (agree-trans z (sweep z b held p g) g (final z b held p) (agree-sym z g (sweep z b held p g) f) h), h)
+      let h : Agree z g (final z b held p) = later g n a f (enough z - n) (enough z) (omega arith) in (
+        agree-trans z (sweep z b held p (final z b held p)) (sweep z b held p g) (final z b held p)
+            (sweep-agrees z b held p (final z b held p) g (agree-sym z g (final z b held p) h))
+            (agree-trans z (sweep z b held p g) g (final z b held p) (agree-sym z g (sweep z b held p g) f) h),
+        h,
+      )
 
   pub restless : (n : ℕ) (xs ys : List Bool) → n ≡ enough z → 0 < z .tracks → length xs ≡ signal-count z → length ys ≡ signal-count z →
       Agree z (state-of z xs) (swept n z b held p dark) → Agree z (state-of z ys) (sweep z b held p (state-of z xs)) → (xs ≡ ys → ⊥) →
@@ -129,9 +131,9 @@ module _ (z : Size) (b : Config) (held : ℕ → Bool) (p : Pads) where
       let g = state-of z xs in
       let h : Agree z g (final z b held p) = subst (λ m. Agree z g (swept m z b held p dark)) l a in
       let r : Agree z (state-of z ys) g =
-        agree-trans z (state-of z ys) (sweep z b held p g) g s
-        (agree-trans z (sweep z b held p g) (sweep z b held p (final z b held p)) g (sweep-agrees z b held p g (final z b held p) h)
-          (agree-trans z (sweep z b held p (final z b held p)) (final z b held p) g q (agree-sym z g (final z b held p) h))) in
+      agree-trans z (state-of z ys) (sweep z b held p g) g s
+      (agree-trans z (sweep z b held p g) (sweep z b held p (final z b held p)) g (sweep-agrees z b held p g (final z b held p) h)
+      (agree-trans z (sweep z b held p (final z b held p)) (final z b held p) g q (agree-sym z g (final z b held p) h))) in
       e (same-from-agree z xs ys o i j (agree-sym z (state-of z ys) g r))
 
 -- 4. What a tick begins with, and what it leaves.
@@ -148,8 +150,9 @@ off-front (suc n) (x ∷ xs) (suc k) h = off-front n xs k (λ i. h (suc i))
 pub dark-front : (z : Size) (n : ℕ) (xs : List Bool) → ((i : ℕ) → getD xs i false ≡ false) → Agree z (state-of z (take n xs)) dark
 unfolding state-of dark
 dark-front z n xs h = record {
-    cells = λ c l. off-front n xs (c * per-signal z) h;
-    tracks = λ c s t l m. off-front n xs (track-place z c s t) h }
+  cells = λ c l. off-front n xs (c * per-signal z) h;
+  tracks = λ c s t l m. off-front n xs (track-place z c s t) h;
+}
 
 pub lookup-agrees : (z : Size) (b : Config) (p : Pads) (g h : Signals) → Agree z g h → (c : ℕ) → c < cell-count z → lookup z b p g c ≡ lookup z b p h c
 lookup-agrees z b p g h a c l = lookup-same z b p g h c (λ i m. agree-same-at z g h a c l (b .input c i))

@@ -63,8 +63,9 @@ agree-same-at z g h a c l (Track s t) = λ m n. a .tracks (neighbour z c s) (opp
 pub sweep-agrees : (z : Size) (b : Config) (held : ℕ → Bool) (p : Pads) (g h : Signals) → Agree z g h → Agree z (sweep z b held p g) (sweep z b held p h)
 unfolding sweep
 sweep-agrees z b held p g h a = record {
-    cells = λ c l. ap (cond (b .holds c) (held c)) (lookup-same z b p g h c (λ i m. agree-same-at z g h a c l (b .input c i)));
-    tracks = λ c s t l m. read-same z p g h c (b .drive c s t) (agree-same-at z g h a c l (b .drive c s t)) }
+  cells = λ c l. ap (cond (b .holds c) (held c)) (lookup-same z b p g h c (λ i m. agree-same-at z g h a c l (b .input c i)));
+  tracks = λ c s t l m. read-same z p g h c (b .drive c s t) (agree-same-at z g h a c l (b .drive c s t));
+}
 
 pub swept-agrees : (n : ℕ) (z : Size) (b : Config) (held : ℕ → Bool) (p : Pads) (g h : Signals) → Agree z g h →
     Agree z (swept n z b held p g) (swept n z b held p h)

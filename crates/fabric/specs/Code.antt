@@ -1,12 +1,13 @@
--- How the code's values stand for a fabric's. Only contracts of inner code and proofs use this.
+-- How the code's values stand for a fabric's. The contract of `tick` uses nothing of this; of public contracts, only those of grids and sources
+-- use `size-of` and `numbered`.
 use mathlib.Core.Path.{_≡_}
-use mathlib.Core.Bool.{Bool, true, false, cond}
-use mathlib.Core.List.{List, [], _∷_}
-use Prim.Native.Nat.{ℕ, _+_, _*_, _-_, _<_, _/_, _%_}
+use mathlib.Core.Bool.{Bool, false, cond}
+use mathlib.Core.List.{List}
+use Prim.Native.Nat.{ℕ, _+_, _*_, _-_, _/_, _%_}
 use lib.Dec.{ltb, eqb}
 use denote.Ref.{now}
 use lib.ListN.{length, getD}
-use Rattle.std.specs.declared.option.Option.the-variants.{Some, None}
+use Rattle.std.specs.declared.option.Option.the-variants.{None}
 use Rattle.fabric.specs.declared.parts.Side.{Side}
 use Rattle.fabric.specs.declared.parts.Side.the-variants.{Right, Below, Left, Above}
 use Rattle.fabric.specs.declared.parts.Source.{Source}
@@ -51,8 +52,9 @@ out-place z k = k / (4 * z .tracks) * per-signal z + (1 + k % (4 * z .tracks))
 
 unfoldable pub state-of : Size → List Bool → Signals
 state-of z xs = record {
-    cell = λ c. getD xs (c * per-signal z) false;
-    track = λ c s t. getD xs (track-place z c s t) false }
+  cell = λ c. getD xs (c * per-signal z) false;
+  track = λ c s t. getD xs (track-place z c s t) false;
+}
 
 unfoldable pub side-at : ℕ → Side
 side-at n = cond (eqb n 0) Right (cond (eqb n 1) Below (cond (eqb n 2) Left Above))

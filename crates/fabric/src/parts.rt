@@ -1,7 +1,6 @@
 // The parts of a fabric's configuration.
 ghost use mathlib.Core.Path.{_≡_};
-ghost use Prim.Native.Nat.{_<_, _≤_};
-ghost use Rattle.std.specs.Options.{Cases as BySome};
+ghost use Prim.Native.Nat.{_<_};
 ghost use Rattle.fabric.specs.Fabrics.{opposite};
 ghost use Rattle.fabric.specs.Numbers.{side-number, source-of, track-from};
 ghost use Rattle.fabric.specs.Code.{numbered, side-at};
@@ -90,10 +89,22 @@ impl Source {
         ensures { λ r. ⌜ r ≡ track-from side track ⌝ }
     {
         match side {
-            0 => Source::Track { side: Side::Right, track },
-            1 => Source::Track { side: Side::Below, track },
-            2 => Source::Track { side: Side::Left, track },
-            3 => Source::Track { side: Side::Above, track },
+            0 => Source::Track {
+                side: Side::Right,
+                track,
+            },
+            1 => Source::Track {
+                side: Side::Below,
+                track,
+            },
+            2 => Source::Track {
+                side: Side::Left,
+                track,
+            },
+            3 => Source::Track {
+                side: Side::Above,
+                track,
+            },
             _ => Source::Nothing,
         }
     }

@@ -4,7 +4,7 @@ ghost use mathlib.Core.Bool.{false};
 ghost use Prim.Native.Nat.{_+_, _*_, _<_, _≤_};
 ghost use Rattle.std.specs.Results.{Cases as ByOk};
 ghost use Rattle.std.specs.declared.option.Option.the-variants.{Some, None};
-ghost use Rattle.fabric.specs.Fabrics.{Size, cell-count, at-edge, neighbour};
+ghost use Rattle.fabric.specs.Fabrics.{cell-count, at-edge, neighbour};
 ghost use Rattle.fabric.specs.Numbers.{per-cell, room-length, pads-length, pad-place, size-refusal};
 ghost use Rattle.fabric.specs.Code.{size-of, per-signal, signal-count, track-place};
 use crate::grid::Grid;
@@ -30,7 +30,11 @@ impl Grid {
         if columns * rows * (22 + 4 * tracks) > 32000 {
             return Err(Refusal::FabricSize);
         }
-        Ok(Grid { columns: columns as usize, rows: rows as usize, tracks: tracks as usize })
+        Ok(Grid {
+            columns: columns as usize,
+            rows: rows as usize,
+            tracks: tracks as usize,
+        })
     }
 
     // How many cells there are.

@@ -1,8 +1,7 @@
 // What a source gives, and what a cell looks up.
 ghost use mathlib.Core.Path.{_≡_};
-ghost use mathlib.Core.Bool.{true, false};
-ghost use Prim.Native.Nat.{_+_, _*_, _<_, _≤_};
-ghost use lib.Dec.{eqb};
+ghost use mathlib.Core.Bool.{false};
+ghost use Prim.Native.Nat.{_+_, _*_, _<_};
 ghost use lib.ListN.{length, getD};
 ghost use Rattle.design.specs.Designs.{bit};
 ghost use Rattle.fabric.specs.Fabrics.{cell-count, incoming, read, lookup};
@@ -32,7 +31,8 @@ impl Wiring<'_, '_> {
         if self.grid.at_edge(cell, side) {
             self.pads[self.grid.pad_place(cell, side, track)] == 1
         } else {
-            levels[self.grid.track_place(self.grid.neighbour(cell, side), side.opposite(), track)]
+            levels[self.grid
+                .track_place(self.grid.neighbour(cell, side), side.opposite(), track)]
         }
     }
 
@@ -61,7 +61,11 @@ impl Wiring<'_, '_> {
         ensures small { λ r. ⌜ r < 2 ⌝ }
     {
         let source = Source::of(self.word(cell, 16 + k));
-        if self.read(levels, cell, source) { 1 } else { 0 }
+        if self.read(levels, cell, source) {
+            1
+        } else {
+            0
+        }
     }
 
     // The bit of the cell's table that its inputs say.

@@ -1,7 +1,7 @@
 // Sweeps, and how a fabric settles.
 ghost use mathlib.Core.Path.{_≡_};
 ghost use mathlib.Core.Bool.{true, false};
-ghost use Prim.Native.Nat.{ℕ, _+_, _*_, _<_, _≤_};
+ghost use Prim.Native.Nat.{ℕ, _+_, _*_, _<_};
 ghost use lib.ListN.{length, getD};
 ghost use Rattle.std.specs.Orderings.{When, Decides};
 ghost use Rattle.fabric.specs.Fabrics.{cell-count, read, sweep, dark, final, Agree, Settles};
@@ -66,7 +66,12 @@ impl Wiring<'_, '_> {
         if rest == 0 {
             self.next_cell(held, levels, cell)
         } else {
-            self.next_track(levels, cell, Side::at((rest - 1) / tracks), (rest - 1) % tracks)
+            self.next_track(
+                levels,
+                cell,
+                Side::at((rest - 1) / tracks),
+                (rest - 1) % tracks,
+            )
         }
     }
 
@@ -91,7 +96,7 @@ impl Wiring<'_, '_> {
         requires dark { ⌜ Agree (grid-of self) (state-of (grid-of self) (now levels)) dark ⌝ }
         ensures { λ r. ⌜ When r
             (Settles (grid-of (self .entry)) (config-of (self .entry)) (held-in (now (held .entry))) (pads-of (self .entry))
-                × Agree (grid-of (self .entry)) (state-of (grid-of (self .entry)) (now (levels .exit))) (final (grid-of (self .entry)) (config-of (self .entry)) (held-in (now (held .entry))) (pads-of (self .entry))))
+            × Agree (grid-of (self .entry)) (state-of (grid-of (self .entry)) (now (levels .exit))) (final (grid-of (self .entry)) (config-of (self .entry)) (held-in (now (held .entry))) (pads-of (self .entry))))
             (Settles (grid-of (self .entry)) (config-of (self .entry)) (held-in (now (held .entry))) (pads-of (self .entry)) → ⊥) ⌝ }
     {
         let limit = self.grid.signals() + 1;

@@ -1,7 +1,7 @@
 use mathlib.Core.Path.{_≡_, refl}
-use mathlib.Core.Bool.{Bool, false}
+use mathlib.Core.Bool.{false}
 use Prim.Native.Nat.{ℕ, zero, suc}
-use lib.ListN.{length, getD, replicate, length-replicate}
+use lib.ListN.{getD, replicate, length-replicate}
 use Rattle.fabric.proofs.sweeping.blank.Needs as need
 
 off : (n k : ℕ) → getD (replicate n false) k false ≡ false

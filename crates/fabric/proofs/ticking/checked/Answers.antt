@@ -1,5 +1,4 @@
-use mathlib.Core.Path.{refl, sym, _∙_}
-use native.Mathlib.Omega.{arith}
+use mathlib.Core.Path.{_∙_}
 use Rattle.std.proofs.shelf.Results.{err-from-errBy}
 use Rattle.fabric.specs.Code.{size-of}
 use Rattle.fabric.proofs.Refusing.{size-refused, bits-refused, held-refused, pads-refused, outs-refused, none-refused}
@@ -38,13 +37,14 @@ returns-then-outs-pads-len c =
 
 pub returns : need.returns
 returns c = record {
-    allowed = none-refused _ (size-of (c .in-Continue-grid .grid)) (c .args .bits .now) (c .args .held .now) (c .args .pads .now) (c .args .outs .now) (c .in-Continue-grid .ensures tt .0) (c .in-Continue-grid .ensures tt .1)
-    (c .room-len .result) (c .room-len .ensures) (c .if-bits-room-len .left)
-    (c .cells .result) (c .cells .ensures) (c .if-held-cells .left)
-    (c .pads-len .result) (c .pads-len .ensures) (c .if-pads-pads-len .left)
-    (c .pads-len-2 .result) (c .pads-len-2 .ensures) (c .if-outs-pads-len .left);
-    size = c .in-Continue-grid .ensures tt .1;
-    bits-length = c .if-bits-room-len .left ∙ c .room-len .ensures;
-    held-length = c .if-held-cells .left ∙ c .cells .ensures;
-    pads-all = c .if-pads-pads-len .left ∙ c .pads-len .ensures;
-    outs-length = c .if-outs-pads-len .left ∙ c .pads-len-2 .ensures }
+  allowed = none-refused _ (size-of (c .in-Continue-grid .grid)) (c .args .bits .now) (c .args .held .now) (c .args .pads .now) (c .args .outs .now) (c .in-Continue-grid .ensures tt .0) (c .in-Continue-grid .ensures tt .1)
+      (c .room-len .result) (c .room-len .ensures) (c .if-bits-room-len .left)
+      (c .cells .result) (c .cells .ensures) (c .if-held-cells .left)
+      (c .pads-len .result) (c .pads-len .ensures) (c .if-pads-pads-len .left)
+      (c .pads-len-2 .result) (c .pads-len-2 .ensures) (c .if-outs-pads-len .left);
+  size = c .in-Continue-grid .ensures tt .1;
+  bits-length = c .if-bits-room-len .left ∙ c .room-len .ensures;
+  held-length = c .if-held-cells .left ∙ c .cells .ensures;
+  pads-all = c .if-pads-pads-len .left ∙ c .pads-len .ensures;
+  outs-length = c .if-outs-pads-len .left ∙ c .pads-len-2 .ensures;
+}

@@ -1,4 +1,3 @@
-use native.Mathlib.Omega.{arith}
 use Rattle.fabric.specs.Numbers.{pads-length}
 use Rattle.fabric.proofs.grid.Grid.pads_len.Needs as need
 

@@ -5,5 +5,6 @@ use Rattle.fabric.proofs.grid.Grid.track_place.Needs as need
 
 pub returns : need.returns
 returns c = record {
-    is = simp (c .number .ensures .is);
-    inside = track-below (cell-count (size-of (c .args .self))) (c .args .self .tracks) (c .args .cell) (c .number .result) (c .args .track) (c .pre .inside) (c .number .ensures .small) (c .pre .some) }
+  is = simp (c .number .ensures .is);
+  inside = track-below (cell-count (size-of (c .args .self))) (c .args .self .tracks) (c .args .cell) (c .number .result) (c .args .track) (c .pre .inside) (c .number .ensures .small) (c .pre .some);
+}

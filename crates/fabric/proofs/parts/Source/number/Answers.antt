@@ -1,9 +1,7 @@
-use mathlib.Core.Path.{_≡_, refl, sym, _∙_}
 use Prim.Native.Nat.{_+_, _*_}
 use native.Mathlib.Omega.{arith}
 use Rattle.std.proofs.shelf.Ways.{tells}
 use Rattle.fabric.specs.Numbers.{source-of}
-use Rattle.fabric.specs.Code.{numbered}
 use Rattle.fabric.proofs.Coding.{source-of-track}
 use Rattle.fabric.proofs.parts.Source.number.Needs as need
 

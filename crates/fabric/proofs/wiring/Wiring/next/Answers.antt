@@ -10,15 +10,17 @@ use Rattle.fabric.proofs.wiring.Wiring.next.Needs as need
 
 pub next-cell-requires : need.next-cell-requires
 next-cell-requires c κs = record {
-    held = c .pre .held;
-    all = c .pre .all;
-    inside = div-below (c .args .place) (per-signal (grid-of (c .args .self))) (cell-count (grid-of (c .args .self))) (omega arith) (c .pre .inside) }
+  held = c .pre .held;
+  all = c .pre .all;
+  inside = div-below (c .args .place) (per-signal (grid-of (c .args .self))) (cell-count (grid-of (c .args .self))) (omega arith) (c .pre .inside);
+}
 
 pub next-track-requires : need.next-track-requires
 next-track-requires c κs = record {
-    all = c .pre .all;
-    inside = div-below (c .args .place) (per-signal (grid-of (c .args .self))) (cell-count (grid-of (c .args .self))) (omega arith) (c .pre .inside);
-    some = mod-below (c .args .place % per-signal (grid-of (c .args .self)) - 1) (c .args .self .grid .tracks) (c .args .self .grid .«some_tracks») }
+  all = c .pre .all;
+  inside = div-below (c .args .place) (per-signal (grid-of (c .args .self))) (cell-count (grid-of (c .args .self))) (omega arith) (c .pre .inside);
+  some = mod-below (c .args .place % per-signal (grid-of (c .args .self)) - 1) (c .args .self .grid .tracks) (c .args .self .grid .«some_tracks»);
+}
 
 pub returns-then-rest-eq0 : need.returns-then-rest-eq0
 returns-then-rest-eq0 c =

@@ -8,8 +8,9 @@ use Rattle.fabric.proofs.wiring.Wiring.next_track.Needs as need
 pub word-requires : need.word-requires
 unfolding per-cell
 word-requires c κs = record {
-    inside = c .pre .inside;
-    some = omega (arith, mul-add-lt (c .number-number .result) (c .args .self .grid .tracks) (c .args .track) 4 (c .number-number .ensures .small) (c .pre .some)) }
+  inside = c .pre .inside;
+  some = omega (arith, mul-add-lt (c .number-number .result) (c .args .self .grid .tracks) (c .args .track) 4 (c .number-number .ensures .small) (c .pre .some));
+}
 
 pub returns : need.returns
 returns c =

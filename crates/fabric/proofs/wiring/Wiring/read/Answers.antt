@@ -1,6 +1,5 @@
-use mathlib.Core.Path.{_∙_, refl, ap}
+use mathlib.Core.Path.{_∙_, ap}
 use mathlib.Core.Bool.{false}
-use native.Mathlib.Omega.{arith}
 use lib.ListN.{getD}
 use Rattle.fabric.specs.Code.{state-of, grid-of, pads-of}
 use Rattle.fabric.proofs.Readings.{read-own, read-nothing, read-track, read-no-track}

@@ -25,8 +25,9 @@ returns-then-done-limit c =
     (c .sweeps .inv .0) (c .sweep .ensures) (λ e. false≢true (c .if-same .ensures tt .1 e))
 
 pub sweeps-again : need.sweeps-again
-sweeps-again c =
-    (swept-more (grid-of (c .args .self)) (config-of (c .args .self)) (held-in (c .args .held .now)) (pads-of (c .args .self))
+sweeps-again c = (
+  swept-more (grid-of (c .args .self)) (config-of (c .args .self)) (held-in (c .args .held .now)) (pads-of (c .args .self))
       (c .sweeps .done) (c .sweeps .levels) (c .sweep .last .next) (c .copy-from-slice .last .self) (c .copy-from-slice .ensures .after)
       (c .sweeps .inv .0) (c .sweep .ensures),
-    omega (arith, c .sweeps .inv .1, c .if-done-limit .left))
+  omega (arith, c .sweeps .inv .1, c .if-done-limit .left),
+)
