@@ -26,9 +26,13 @@ use Rattle.route.specs.Plain.{plain-source, plain-net}
 use Rattle.bitstream.specs.declared.plans.Plan.{Plan}
 use Rattle.bitstream.specs.Puts.{pin-count, put-refusal, plain-refusal, not-yet}
 
--- the refusal that the program answers, if any: 7 is said wherever the plain layout has no room
+-- refusals 7 and 9, as the program answers them: 7 is said wherever the plain layout has no room
+unfoldable pub later-answer : Size → (design : List ℕ) → Option Refusal
+later-answer z xs = orOther (plain-refusal z (design-in xs)) (not-yet z xs)
+
+-- the refusal that the program answers, if any
 unfoldable pub put-answer : Size → (design room pins : List ℕ) → Option Refusal
-put-answer z xs room pins = orOther (put-refusal z xs room pins) (orOther (plain-refusal z (design-in xs)) (not-yet z xs))
+put-answer z xs room pins = orOther (put-refusal z xs room pins) (later-answer z xs)
 
 abbrev pub grid-of : Plan → Size
 grid-of p = size-of (p .routing .grid)
@@ -43,14 +47,20 @@ count-of p = p .routing .placement .count
 abbrev pub cell-of : Plan → ℕ → CellT
 cell-of p c = cond (ltb c (p .netlist .count)) (cell-at (p .netlist .cells) c) blank
 
+-- the cells' inputs, and the cells of the outputs, are there
+abbrev pub Nets-exist : Plan → Type 0
+Nets-exist p = (c k : ℕ) → k < 4 → Exists (inputs-of p) (count-of p) (input-of (cell-of p c) k)
+
+abbrev pub Outputs-exist : Plan → Type 0
+Outputs-exist p = (m : ℕ) → inputs-of p + m < p .pins → (m < 1024) × (getD (p .netlist .outputs) m 0 < count-of p)
+
 -- a plan for the design
 pub record Planned (d : Design) (p : Plan) : Type 0 where
   pub lowered : Lowered d (p .netlist)
   pub inputs : inputs-of p ≡ input-bits d
   pub count : count-of p ≡ p .netlist .count
   pub pins : p .pins ≡ pin-count d
-  pub exist : (c k : ℕ) → k < 4 → Exists (inputs-of p) (count-of p) (input-of (cell-of p c) k)
-  pub outputs : output-bits d ≤ 1024
+  pub few : output-bits d ≤ 1024
 
 -- the number x, at place j of those of the fabric's cell c, is what the plan has there
 pub record Number-at (z : Size) (i n : ℕ) (cell : CellT) (c j x : ℕ) : Type 0 where

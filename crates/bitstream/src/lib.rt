@@ -1,6 +1,8 @@
 // Bits and pins: a design put on the fabric.
 ghost use mathlib.Core.Path.{_≡_};
 ghost use Rattle.bitstream.specs.Puts.{Put-says};
+mod pinning;
+mod planning;
 mod plans;
 pub mod theorem;
 mod writing;

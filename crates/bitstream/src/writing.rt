@@ -8,7 +8,7 @@ ghost use Rattle.fabric.specs.Fabrics.{cell-count};
 ghost use Rattle.fabric.specs.Code.{size-of};
 ghost use Rattle.netlist.specs.Building.{input-of};
 ghost use Rattle.route.specs.Nets.{Exists};
-ghost use Rattle.bitstream.specs.Plans.{grid-of, inputs-of, count-of, cell-of, Number-at, Cells-written};
+ghost use Rattle.bitstream.specs.Plans.{grid-of, inputs-of, count-of, cell-of, Nets-exist, Number-at, Cells-written};
 use crate::plans::Plan;
 use netlist::parts::Cell;
 use route::plain::Plain;
@@ -49,7 +49,7 @@ fn number(routing: Plain, cell: Cell, at: u16, j: usize) -> u16
 
 // The numbers of one cell of the fabric.
 fn write_cell(plan: &Plan, at: u16, numbers: &mut [u16])
-    requires exist { ⌜ ((c k : ℕ) → k < 4 → Exists (inputs-of (now plan)) (count-of (now plan)) (input-of (cell-of (now plan) c) k)) ⌝ }
+    requires exist { ⌜ Nets-exist (now plan) ⌝ }
     ensures { λ _. ⌜ ((j : ℕ) → j < length (now (numbers .entry)) →
         Number-at (grid-of (now (plan .entry))) (inputs-of (now (plan .entry))) (count-of (now (plan .entry))) (cell-of (now (plan .entry)) at) at j (getD (now (numbers .exit)) j 0)) ⌝ }
 {
@@ -61,7 +61,7 @@ fn write_cell(plan: &Plan, at: u16, numbers: &mut [u16])
 
 // The numbers of the whole fabric, cell by cell; each cell's part of the room is lent on to be written.
 pub(crate) fn write_room(plan: &Plan, room: &mut [u16])
-    requires exist { ⌜ ((c k : ℕ) → k < 4 → Exists (inputs-of (now plan)) (count-of (now plan)) (input-of (cell-of (now plan) c) k)) ⌝ }
+    requires exist { ⌜ Nets-exist (now plan) ⌝ }
     requires long { ⌜ length (now room) ≡ room-length (grid-of (now plan)) ⌝ }
     ensures { λ _. ⌜ Cells-written (now (plan .entry)) (cell-count (grid-of (now (plan .entry)))) (now (room .exit)) ⌝ }
 {

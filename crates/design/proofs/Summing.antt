@@ -1,10 +1,10 @@
 -- How the summary of an operation comes from those of its operands.
 use mathlib.Core.Path.{_≡_, refl, sym, _∙_, ap}
 use mathlib.Core.Bool.{Bool, true, false, _&&_}
-use Prim.Native.Nat.{ℕ, _+_, _*_, _≤_, _<_, min}
+use Prim.Native.Nat.{ℕ, _+_, _*_, _≤_, min}
 use native.Mathlib.Omega.{arith}
 use lib.Dec.{ltb, leb, eqb}
-use Rattle.std.proofs.shelf.Tests.{and-parts, leb-true, eqb-true}
+use Rattle.std.proofs.shelf.Tests.{and-parts, leb-true}
 use Rattle.design.specs.declared.summary.Summary.{Summary}
 use Rattle.design.specs.Designs.{Design, Expr, Word, input, register, constant, mux, slice, concat, width, well-formed, cells}
 use Rattle.design.specs.Designs.{and as and-expr, or as or-expr, xor as xor-expr, not as not-expr, add, less, equal}

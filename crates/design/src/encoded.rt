@@ -22,7 +22,7 @@ pub struct Encoded<'a> {
 }
 
 // A register: its width, the number that it begins with, and the node that it becomes at the end of a tick.
-#[derive(Clone, Copy, PartialEq, Eq, Debug)]
+#[derive(Clone, Copy)]
 pub struct Register {
     pub width: u16,
     pub initial: u16,

@@ -9,5 +9,3 @@ mod pass;
 pub mod refusal;
 pub mod soundness;
 mod summary;
-#[cfg(test)]
-mod tests;

@@ -66,10 +66,11 @@ fn output_summary(analysis: &Analysis<'_>, k: u16) -> Summary
     analysis.summary(analysis.design.output(k))
 }
 
-#[derive(Clone, Copy, PartialEq, Eq, Debug)]
+#[derive(Clone, Copy)]
 struct Outputs {
     bits: u64,
     cells: u32,
+    ghost few: { bits < 2 ^ 32 },
 }
 
 // The bits and the cells of all outputs, or the first that isn't sound.

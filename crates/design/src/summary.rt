@@ -6,7 +6,7 @@ ghost use lib.Dec.{eqb, leb};
 
 pub(crate) const CAP: u32 = 65536;
 
-#[derive(Clone, Copy, PartialEq, Eq, Debug)]
+#[derive(Clone, Copy)]
 pub(crate) struct Summary {
     pub(crate) width: u16,
     pub(crate) formed: bool,

@@ -1,5 +1,4 @@
 use mathlib.Core.Path.{_≡_}
-use lib.Dec.{ltb}
 use Rattle.std.specs.declared.option.Option.the-variants.{None}
 use Rattle.design.specs.Numbers.{first-failing, node-ok}
 use Rattle.design.proofs.faults.bad_node.Given as given

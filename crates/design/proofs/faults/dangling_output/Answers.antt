@@ -1,12 +1,5 @@
-use mathlib.Core.Path.{_≡_, sym, _∙_, refl}
-use mathlib.Core.Bool.{true, false}
-use mathlib.Core.Logic.{_⊎_, inl, inr}
+use mathlib.Core.Path.{sym}
 use native.Mathlib.Omega.{arith}
-use borrow.Author.Needs.{needs}
-use Rattle.std.proofs.shelf.Ways.{tells}
-use Prim.Native.Nat.{ℕ}
-use mathlib.Core.Bool.{Bool}
-use mathlib.Core.List.{List}
 use Rattle.std.proofs.shelf.Tests.{lt-ltb, le-ltb}
 use Rattle.design.specs.Numbers.{nodes-of, output-node, outputs-of}
 use Rattle.design.proofs.First.{first-start, first-more, first-found}

@@ -1,9 +1,5 @@
-use mathlib.Core.Path.{_≡_, sym, _∙_, refl}
-use mathlib.Core.Bool.{true, false}
-use mathlib.Core.Logic.{_⊎_, inl, inr}
+use mathlib.Core.Path.{sym, _∙_}
 use native.Mathlib.Omega.{arith}
-use borrow.Author.Needs.{needs}
-use Rattle.std.proofs.shelf.Ways.{tells}
 use Rattle.design.proofs.Reading.{Long, refuses-length, refuses-count, refuses-node, refuses-register, refuses-output, refuses-nothing}
 use Rattle.design.proofs.faults.fault.Needs as need
 

@@ -1,14 +1,10 @@
-use mathlib.Core.Path.{_≡_, sym, _∙_, refl}
-use mathlib.Core.Bool.{true, false}
-use mathlib.Core.Logic.{_⊎_, inl, inr}
+use mathlib.Core.Path.{sym}
 use native.Mathlib.Omega.{arith}
-use borrow.Author.Needs.{needs}
-use Rattle.std.proofs.shelf.Ways.{tells}
 use mathlib.Core.Path.{subst}
 use Prim.Native.Nat.{_<_}
 use lib.ListN.{length, length-set}
 use Rattle.design.specs.Designs.{Expr}
-use Rattle.design.specs.Numbers.{nodes-of, expr-at, expr-of, design-in}
+use Rattle.design.specs.Numbers.{nodes-of, expr-at, design-in}
 use Rattle.design.specs.Summaries.{Summarizes}
 use Rattle.design.proofs.Reading.{not-refused}
 use Rattle.design.proofs.Exprs.{expr-at-node}

@@ -1,9 +1,5 @@
-use mathlib.Core.Path.{_≡_, sym, _∙_, refl}
-use mathlib.Core.Bool.{true, false}
-use mathlib.Core.Logic.{_⊎_, inl, inr}
+use mathlib.Core.Path.{_≡_, sym, _∙_}
 use native.Mathlib.Omega.{arith}
-use borrow.Author.Needs.{needs}
-use Rattle.std.proofs.shelf.Ways.{tells}
 use Prim.Native.Nat.{_<_}
 use Rattle.design.specs.Designs.{input-sound}
 use Rattle.design.specs.Encodings.{list-of, design-of}

@@ -1,9 +1,6 @@
-use mathlib.Core.Path.{_≡_, sym, _∙_, refl}
-use mathlib.Core.Bool.{true, false}
-use mathlib.Core.Logic.{_⊎_, inl, inr}
+use mathlib.Core.Path.{_≡_, sym, _∙_}
 use native.Mathlib.Omega.{arith}
 use borrow.Author.Needs.{needs}
-use Rattle.std.proofs.shelf.Ways.{tells}
 use Prim.Native.Nat.{_<_}
 use Rattle.std.proofs.shelf.Tests.{not-true, not-false}
 use Rattle.design.specs.Designs.{output-sound, output-width, output-cells}

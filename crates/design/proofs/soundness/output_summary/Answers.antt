@@ -1,9 +1,4 @@
-use mathlib.Core.Path.{_≡_, sym, _∙_, refl}
-use mathlib.Core.Bool.{true, false}
-use mathlib.Core.Logic.{_⊎_, inl, inr}
 use native.Mathlib.Omega.{arith}
-use borrow.Author.Needs.{needs}
-use Rattle.std.proofs.shelf.Ways.{tells}
 use Rattle.design.specs.Encodings.{list-of}
 use Rattle.design.proofs.Sound.{output-summary, outputs-in}
 use Rattle.design.proofs.soundness.output_summary.Needs as need

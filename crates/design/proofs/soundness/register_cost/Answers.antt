@@ -1,12 +1,7 @@
-use mathlib.Core.Path.{_≡_, sym, _∙_, refl}
-use mathlib.Core.Bool.{true, false}
-use mathlib.Core.Logic.{_⊎_, inl, inr}
+use mathlib.Core.Path.{sym, _∙_}
 use native.Mathlib.Omega.{arith}
-use borrow.Author.Needs.{needs}
-use Rattle.std.proofs.shelf.Ways.{tells}
 use Rattle.design.specs.Encodings.{list-of}
 use Rattle.design.specs.Numbers.{design-in}
-use Rattle.design.specs.Summaries.{Summarizes}
 use Rattle.design.proofs.Sound.{next-summary, registers-in, register-test, register-count}
 use Rattle.design.proofs.soundness.register_cost.Needs as need
 

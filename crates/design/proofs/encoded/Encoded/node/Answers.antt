@@ -1,9 +1,4 @@
-use mathlib.Core.Path.{_≡_, sym, _∙_, refl}
-use mathlib.Core.Bool.{true, false}
-use mathlib.Core.Logic.{_⊎_, inl, inr}
-use native.Mathlib.Omega.{arith}
-use borrow.Author.Needs.{needs}
-use Rattle.std.proofs.shelf.Ways.{tells}
+use mathlib.Core.Path.{sym, _∙_}
 use Rattle.design.proofs.Reading.{not-refused}
 use Rattle.design.proofs.Exprs.{operands-below, node-there}
 use Rattle.design.proofs.encoded.Encoded.node.Needs as need
