@@ -3,6 +3,8 @@ pub mod Valuation
 pub mod Fixpoint
 pub mod Pins
 pub mod Placing
+pub mod Putting
 pub mod Ranks
+pub mod Refusing
 pub mod Ticks
 pub mod Implementation

@@ -7,6 +7,9 @@ mod plans;
 pub mod theorem;
 mod writing;
 
+use crate::pinning::write_pins;
+use crate::planning::plan;
+use crate::writing::write_room;
 use design::refusal::Refusal;
 use design::refusal::RefusalDebug;
 
@@ -23,5 +26,12 @@ pub enum Made {
 pub fn put(across: u64, down: u64, tracks: u64, design: &[u16], room: &mut [u16], pins: &mut [u16]) -> Made
     ensures { λ r. ⌜ Put-says (record { columns = across; rows = down; tracks = tracks }) (now (design .entry)) (now (room .entry)) (now (pins .entry)) r (now (room .exit)) (now (pins .exit)) ⌝ }
 {
-    Made::Refused(Refusal::Rows)
+    match plan(across, down, tracks, design, room, pins) {
+        Err(refusal) => Made::Refused(refusal),
+        Ok(plan) => {
+            write_room(&plan, room);
+            write_pins(&plan, pins);
+            Made::Placed
+        }
+    }
 }
