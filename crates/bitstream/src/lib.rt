@@ -11,10 +11,9 @@ use crate::pinning::write_pins;
 use crate::planning::plan;
 use crate::writing::write_room;
 use design::refusal::Refusal;
-use design::refusal::RefusalDebug;
 
 // What `put` answers.
-#[derive(Clone, Copy, Debug)]
+#[derive(Clone, Copy)]
 pub enum Made {
     // the room holds the fabric's bits, and the pins are written
     Placed,

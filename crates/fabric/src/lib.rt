@@ -5,8 +5,6 @@ pub mod parts;
 mod places;
 mod reading;
 mod sweeping;
-#[cfg(test)]
-mod tests;
 pub mod ticking;
 mod wiring;
 mod writing;

@@ -6,7 +6,7 @@ ghost use Rattle.fabric.specs.Numbers.{side-number, source-of, track-from};
 ghost use Rattle.fabric.specs.Code.{numbered, side-at};
 
 // The four sides of a cell.
-#[derive(Clone, Copy, PartialEq, Eq, Debug)]
+#[derive(Clone, Copy)]
 pub enum Side {
     Right,
     Below,
@@ -15,7 +15,7 @@ pub enum Side {
 }
 
 // Where an input of a cell, or a track that goes out of it, takes its level from.
-#[derive(Clone, Copy, PartialEq, Eq, Debug)]
+#[derive(Clone, Copy)]
 pub enum Source {
     // nothing, which is 0
     Nothing,
@@ -26,7 +26,7 @@ pub enum Source {
 }
 
 // Where a bit goes into the fabric or comes out of it: a cell, a side of it that is an edge, and a track.
-#[derive(Clone, Copy, PartialEq, Eq, Debug)]
+#[derive(Clone, Copy)]
 pub struct Pin {
     pub cell: u16,
     pub side: Side,

@@ -12,13 +12,12 @@ use crate::grid::Grid;
 use crate::sweeping::blank;
 use crate::wiring::Wiring;
 use design::refusal::Refusal;
-use design::refusal::RefusalDebug;
 
 // The most cells and tracks that a fabric has together.
 const SIGNALS: usize = 32000;
 
 // What a tick answers.
-#[derive(Clone, Copy, Debug)]
+#[derive(Clone, Copy)]
 pub enum Done {
     // the fabric settled, and the held bits and outputs are written
     Ticked,

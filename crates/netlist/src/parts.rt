@@ -2,7 +2,7 @@
 
 // What an input of a cell reads: nothing, which is 0, a bit of the inputs, or what a cell shows. Input bits are counted over all
 // inputs, word by word from the low bit.
-#[derive(Clone, Copy, PartialEq, Eq, Debug)]
+#[derive(Clone, Copy)]
 pub enum Net {
     Zero,
     Input(u16),
@@ -11,7 +11,7 @@ pub enum Net {
 
 // A cell of four inputs: bit k of the table is what it looks up where its inputs say k. A cell that holds shows what it held, and
 // what it looks up is what it holds next.
-#[derive(Clone, Copy, PartialEq, Eq, Debug)]
+#[derive(Clone, Copy)]
 pub struct Cell {
     pub table: u16,
     pub inputs: [Net; 4],

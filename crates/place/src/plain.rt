@@ -4,7 +4,7 @@ ghost use Rattle.place.specs.Plain.{plain-occupant};
 use netlist::parts::Net;
 
 // The plain placement of so many cells.
-#[derive(Clone, Copy, PartialEq, Eq, Debug)]
+#[derive(Clone, Copy)]
 pub struct Placement {
     pub count: u16,
 }
@@ -32,21 +32,5 @@ impl Placement {
         } else {
             Net::Zero
         }
-    }
-}
-
-#[cfg(test)]
-mod tests {
-    use super::*;
-    use netlist::parts::NetDebug;
-    use netlist::parts::NetPartialEq;
-    use std::test::*;
-
-    #[test]
-    fn stands() -> Result<(), Fail> {
-        let p = Placement::new(3);
-        check_eq(p.home(2), 2)?;
-        check_eq(p.occupant(2), Net::Cell(2))?;
-        check_eq(p.occupant(3), Net::Zero)
     }
 }

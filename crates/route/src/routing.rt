@@ -153,34 +153,3 @@ fn first_pin(side: Side, track: u16) -> Pin
         track,
     }
 }
-
-#[cfg(test)]
-mod tests {
-    use super::*;
-    use fabric::parts::SourceDebug;
-    use fabric::parts::SourcePartialEq;
-    use netlist::parts::NetDebug;
-    use netlist::parts::NetPartialEq;
-    use std::test::*;
-
-    // two by two cells, an input bit and three cells
-    #[test]
-    fn routes() -> Result<(), Fail> {
-        let grid = Grid {
-            columns: 2,
-            rows: 2,
-            tracks: 4,
-        };
-        let Some(p) = Plain::new(grid, 1, 3) else {
-            return Err(Fail::new("no room"));
-        };
-        check_eq(p.source(0, Net::Input(0)), from(Side::Left, 0))?;
-        check_eq(p.source(3, Net::Cell(1)), from(Side::Above, 2))?;
-        check_eq(p.source(2, Net::Cell(2)), Source::Own)?;
-        check_eq(p.carried(3), Net::Cell(2))
-    }
-
-    fn from(side: Side, track: u16) -> Source {
-        Source::Track { side, track }
-    }
-}
