@@ -11,7 +11,7 @@ use crate::pass;
 use crate::summary::Summary;
 
 #[derive(Drop)]
-pub(crate) struct Analysis<'a> {
+pub struct Analysis<'a> {
     pub(crate) design: Encoded<'a>,
     known: [Summary; 1024],
     ghost long: { length known ≡ 1024 },
@@ -21,7 +21,8 @@ pub(crate) struct Analysis<'a> {
 }
 
 impl<'a> Analysis<'a> {
-    pub(crate) fn new(design: Encoded<'a>) -> Analysis<'a>
+    // Goes over the nodes once, in their order.
+    pub fn new(design: Encoded<'a>) -> Analysis<'a>
         ensures { λ r. ⌜ list-of (r .design) ≡ list-of (design .entry) ⌝ }
     {
         Analysis { design, known: pass::pass(design) }

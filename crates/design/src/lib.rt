@@ -1,5 +1,5 @@
 // Designs in numbers: read, checked, counted.
-mod analysis;
+pub mod analysis;
 pub mod counts;
 pub mod encoded;
 mod faults;

@@ -66,6 +66,14 @@ fn output_summary(analysis: &Analysis<'_>, k: u16) -> Summary
     analysis.summary(analysis.design.output(k))
 }
 
+// The width of a sound output's word.
+pub fn output_width(analysis: &Analysis<'_>, output: u16) -> u16
+    ensures { λ r. ⌜ (output < design-of (now (analysis .entry) .design) .outputs → output-sound (design-of (now (analysis .entry) .design)) output ≡ true →
+        r ≡ output-width (design-of (now (analysis .entry) .design)) output) ⌝ }
+{
+    output_summary(analysis, output).width
+}
+
 #[derive(Clone, Copy)]
 struct Outputs {
     bits: u64,
