@@ -231,7 +231,7 @@ impl Draft {
     }
 
     // Takes a line's entry in; false if it can't stand.
-    pub fn take(&mut self, heap: Global, entry: Entry, line: u64) -> Result<bool, Fault>
+    pub(crate) fn take(&mut self, heap: Global, entry: Entry, line: u64) -> Result<bool, Fault>
         ensures { λ r. ⌜ ByOk r (λ _. Unit {0}) (λ f. f ≡ Memory) ⌝ }
     {
         match entry {
@@ -258,7 +258,7 @@ impl Draft {
     }
 
     // The listing, if no port lacks a bit.
-    pub fn finish(self, heap: Global) -> Result<Listing, Fault>
+    pub(crate) fn finish(self, heap: Global) -> Result<Listing, Fault>
         ensures { λ r. ⌜ ByOk r (λ _. Unit {0}) (λ f. At-some-line f) ⌝ }
     {
         let inputs = all_finished(heap, self.inputs.as_slice())?;

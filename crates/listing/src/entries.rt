@@ -45,7 +45,7 @@ pub enum Entry<'a> {
 }
 
 // Letters and digits, a letter first, up to sixteen.
-pub fn is_name(word: &str) -> bool {
+pub(crate) fn is_name(word: &str) -> bool {
     let [first, ..] = word.as_bytes() else {
         return false;
     };

@@ -77,7 +77,7 @@ fn hex_digit(b: u8) -> Option<u16>
 }
 
 // Four lower-case hexadecimal digits.
-pub fn hex(word: &str) -> Option<u16>
+pub(crate) fn hex(word: &str) -> Option<u16>
     ensures { λ r. ⌜ BySome r (Unit {0}) (λ n. Hex-number (now (word .entry)) n) ⌝ }
 {
     let [a, b, c, d] = word.as_bytes() else {

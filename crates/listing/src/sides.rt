@@ -19,7 +19,7 @@ pub fn side_at(n: usize) -> Side
 }
 
 // The name of a side.
-pub fn side_name(side: Side) -> &'static str
+pub(crate) fn side_name(side: Side) -> &'static str
     ensures { λ r. ⌜ now r ≡ side-word side ⌝ }
 {
     match side {
@@ -31,7 +31,7 @@ pub fn side_name(side: Side) -> &'static str
 }
 
 // The side of that name.
-pub fn side_named(word: &str) -> Option<Side>
+pub(crate) fn side_named(word: &str) -> Option<Side>
     ensures { λ r. ⌜ BySome r ((s : Side) → now (word .entry) ≡ side-word s → ⊥) (λ s. now (word .entry) ≡ side-word s) ⌝ }
 {
     match word {

@@ -37,7 +37,7 @@ impl<'a> Words<'a> {
     }
 
     // The next word is that one.
-    pub fn expect(&mut self, wanted: &str) -> Option<()> {
+    pub(crate) fn expect(&mut self, wanted: &str) -> Option<()> {
         let word = self.next()?;
         if word == wanted { Some(()) } else { None }
     }

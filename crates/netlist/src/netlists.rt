@@ -40,7 +40,8 @@ impl Netlist {
 
     // The cell that shows output bit m, the bits counted over all outputs.
     pub fn output(&self, m: usize) -> u16
-        ensures { λ r. ⌜ (m < 1024 → r ≡ getD (now (self .entry) .outputs) m 0) ⌝ }
+        ensures within { λ r. ⌜ (m < 1024 → r ≡ getD (now (self .entry) .outputs) m 0) ⌝ }
+        ensures past { λ r. ⌜ (1024 ≤ m → r ≡ 0) ⌝ }
     {
         if m < 1024 { self.outputs[m] } else { 0 }
     }

@@ -189,7 +189,7 @@ fn other_words(out: &mut String, refusal: Refusal) -> Result<(), Fault> {
 }
 
 // Why a design can't be put on a fabric.
-pub fn design_message(heap: Global, refusal: Refusal, asked: Asked) -> Result<String, Fault> {
+pub(crate) fn design_message(heap: Global, refusal: Refusal, asked: Asked) -> Result<String, Fault> {
     let mut out = begun(heap, refusal)?;
     design_words(&mut out, heap, refusal, asked)?;
     Ok(out)
@@ -226,7 +226,7 @@ fn line_message(
 }
 
 // A text that isn't one, from that line on.
-pub fn bytes_message(heap: Global, line: u64, what: &str) -> Result<String, Fault> {
+pub(crate) fn bytes_message(heap: Global, line: u64, what: &str) -> Result<String, Fault> {
     let mut out = begun(heap, Refusal::Text { line })?;
     let shown = line.saturating_add(1);
     write!(
@@ -237,7 +237,7 @@ pub fn bytes_message(heap: Global, line: u64, what: &str) -> Result<String, Faul
 }
 
 // Why a design's text can't be read.
-pub fn numbers_message(heap: Global, refusal: Refusal, text: &str) -> Result<String, Fault> {
+pub(crate) fn numbers_message(heap: Global, refusal: Refusal, text: &str) -> Result<String, Fault> {
     line_message(heap, refusal.place(), "design", text, NUMBERS_HINT)
 }
 
@@ -251,7 +251,7 @@ fn listing_hint(line: &str) -> &'static str {
 }
 
 // Why a listing can't be read.
-pub fn listing_message(heap: Global, refusal: Refusal, text: &str) -> Result<String, Fault> {
+pub(crate) fn listing_message(heap: Global, refusal: Refusal, text: &str) -> Result<String, Fault> {
     if refusal.number() == 8 {
         let line = refusal.place();
         let hint = listing_hint(line_of(text, line));
@@ -280,7 +280,7 @@ fn stream_hint(heap: Global, inputs: &[Port]) -> Result<String, Fault> {
 }
 
 // Why a stream can't be read, or not be played.
-pub fn stream_message(
+pub(crate) fn stream_message(
     heap: Global,
     refusal: Refusal,
     text: &str,

@@ -34,12 +34,12 @@ pub struct Asked<'a> {
 }
 
 // A number of a design; 0 past the end.
-pub fn asked_number(numbers: &[u64], place: usize) -> u64 {
+pub(crate) fn asked_number(numbers: &[u64], place: usize) -> u64 {
     numbers.get(place).copied().unwrap_or(0)
 }
 
 // How many numbers the design should have, as its counts say.
-pub fn expected_len(numbers: &[u64]) -> u64 {
+pub(crate) fn expected_len(numbers: &[u64]) -> u64 {
     let inputs = asked_number(numbers, 0);
     let registers = asked_number(numbers, 1).saturating_mul(3);
     let outputs = asked_number(numbers, 2);
@@ -141,7 +141,7 @@ fn laid_out(heap: Global, grid: Grid, asked: Asked, design: &[u16]) -> Result<Li
 }
 
 // The listing of a design on a fabric. The fabric is looked at first, then how many numbers there are, then each number.
-pub fn compiled(heap: Global, asked: Asked) -> Result<Listing, Fault> {
+pub(crate) fn compiled(heap: Global, asked: Asked) -> Result<Listing, Fault> {
     let grid = Grid::new(asked.columns, asked.rows, asked.tracks)?;
     let expected = expected_len(asked.numbers);
     if asked.numbers.len() as u64 != expected {

@@ -101,7 +101,7 @@ fn read_tick(heap: Global, ports: &[Port], text: &str, line: u64) -> Result<Tick
 }
 
 // The ticks of a stream for these inputs.
-pub fn read_stream(heap: Global, ports: &[Port], text: &str) -> Result<Vec<Tick>, Fault>
+pub(crate) fn read_stream(heap: Global, ports: &[Port], text: &str) -> Result<Vec<Tick>, Fault>
     ensures { λ r. ⌜ ByOk r (λ _. Unit {0}) (λ f. At-some-line f) ⌝ }
 {
     let mut ticks = Vec::new(heap);
@@ -114,7 +114,7 @@ pub fn read_stream(heap: Global, ports: &[Port], text: &str) -> Result<Vec<Tick>
 }
 
 // Adds a word and its number to a line, after a space unless the line begins.
-pub fn print_word(out: &mut String, name: &str, n: u64, first: bool) -> Result<(), Fault> {
+pub(crate) fn print_word(out: &mut String, name: &str, n: u64, first: bool) -> Result<(), Fault> {
     if !first {
         out.push_str(" ")?;
     }

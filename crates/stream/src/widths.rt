@@ -7,7 +7,7 @@ use listing::fault::FaultFromRefused;
 use std::alloc::Global;
 
 // The width of each input.
-pub fn input_widths(heap: Global, design: Encoded<'_>) -> Result<Vec<u16>, Fault> {
+pub(crate) fn input_widths(heap: Global, design: Encoded<'_>) -> Result<Vec<u16>, Fault> {
     let mut widths = Vec::new(heap);
     for input in 0..design.inputs() {
         widths.push(design.input_width(input))?;

@@ -21,5 +21,5 @@ returns-else-m-inputs c =
     let m = c .args .m in
     let l : i + (m - i) < p .pins = omega (arith, c .pre .there, c .if-m-inputs .left) in
     let x = c .pre .exist (m - i) l in
-    let e : c .output .result ≡ getD (p .netlist .outputs) (m - i) 0 = c .output .ensures (x .0) in
+    let e : c .output .result ≡ getD (p .netlist .outputs) (m - i) 0 = c .output .ensures .within (x .0) in
     c .output-pin .ensures .is (omega (arith, e, x .1)) ∙ ap (λ (k : ℕ). above (i + k)) e ∙ pin-out p m (c .if-m-inputs .left)
