@@ -126,7 +126,7 @@ fn all_finished(heap: Global, drafts: &[DraftPort]) -> Result<Vec<Port>, Fault>
 
 impl Draft {
     // A blank fabric.
-    pub fn new(heap: Global, grid: Grid) -> Result<Draft, Fault>
+    pub(crate) fn new(heap: Global, grid: Grid) -> Result<Draft, Fault>
         ensures { λ r. ⌜ ByOk r (λ _. Unit {0}) (λ f. f ≡ Memory) ⌝ }
     {
         let room = Vec::from_elem(heap, 0, grid.room_len())?;

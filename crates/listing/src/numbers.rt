@@ -57,7 +57,7 @@ pub fn decimal_or_most(word: &str) -> Option<u64> {
 }
 
 // A decimal number that fits 16 bits.
-pub fn small(word: &str) -> Option<u16>
+pub(crate) fn small(word: &str) -> Option<u16>
     ensures { λ r. ⌜ Small (now (word .entry)) r ⌝ }
 {
     let n = decimal(word)?;

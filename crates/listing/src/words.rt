@@ -43,7 +43,7 @@ impl<'a> Words<'a> {
     }
 
     // The next word as a number of 16 bits.
-    pub fn number(&mut self) -> Option<u16> {
+    pub(crate) fn number(&mut self) -> Option<u16> {
         let word = self.next()?;
         small(word)
     }

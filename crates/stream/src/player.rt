@@ -79,7 +79,7 @@ fn output(outs: &[u8], grid: Grid, port: &Port) -> u64 {
 
 impl<'a> Player<'a> {
     // The fabric before its first tick, with 0 at every pad.
-    pub fn new(heap: Global, listing: &'a Listing) -> Result<Player<'a>, Fault> {
+    pub(crate) fn new(heap: Global, listing: &'a Listing) -> Result<Player<'a>, Fault> {
         let grid = listing.grid;
         let held = initial(heap, grid, listing.room.as_slice())?;
         let pads = Vec::from_elem(heap, 0, grid.pads_len())?;
@@ -100,7 +100,7 @@ impl<'a> Player<'a> {
     }
 
     // Plays one tick with these inputs.
-    pub fn play(&mut self, inputs: &[u64]) -> Done {
+    pub(crate) fn play(&mut self, inputs: &[u64]) -> Done {
         self.put_inputs(inputs);
         let grid = self.listing.grid;
         let columns = grid.columns as u64;
@@ -118,7 +118,7 @@ impl<'a> Player<'a> {
     }
 
     // The line of the outputs, with their numbers after the tick.
-    pub fn print(&self, out: &mut String) -> Result<(), Fault> {
+    pub(crate) fn print(&self, out: &mut String) -> Result<(), Fault> {
         let mut first = true;
         for port in self.listing.outputs.iter() {
             let n = output(self.outs.as_slice(), self.listing.grid, port);
@@ -151,7 +151,7 @@ fn play_tick(
 }
 
 // What a fabric shows to a stream, a line for each tick. It ends where the fabric doesn't settle.
-pub fn played(heap: Global, listing: &Listing, ticks: &[Tick]) -> Result<String, Fault> {
+pub(crate) fn played(heap: Global, listing: &Listing, ticks: &[Tick]) -> Result<String, Fault> {
     let mut out = String::new(heap);
     let mut player = Player::new(heap, listing)?;
     for (at, inputs) in ticks.iter().enumerate() {

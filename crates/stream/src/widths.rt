@@ -26,7 +26,7 @@ pub fn output_widths(heap: Global, design: Encoded<'_>) -> Result<Vec<u16>, Faul
 }
 
 // The sum of widths.
-pub fn bits(widths: &[u16]) -> usize {
+pub(crate) fn bits(widths: &[u16]) -> usize {
     let mut sum = 0usize;
     for width in widths {
         sum = sum.saturating_add(*width as usize);
