@@ -1,4 +1,6 @@
 // Bits and pins: a design put on the fabric.
+#![tactic(auto)]
+
 ghost use Rattle.std.specs.Prelude.{◌≡◌};
 ghost use Rattle.bitstream.specs.Puts.{PutSays};
 

@@ -1,4 +1,6 @@
 // Puts a design on a fabric, and prints the listing of the fabric's bits and pins.
+#![tactic(auto)]
+
 use listing::numbers::decimal_or_most;
 use stream::commands::compile;
 use stream::files::{Failed, argument, arguments, fail, load, print, say};

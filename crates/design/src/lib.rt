@@ -1,4 +1,6 @@
 // Designs in numbers: read, checked, counted.
+#![tactic(auto)]
+
 pub mod analysis;
 pub mod counts;
 pub mod encoded;

@@ -1,4 +1,6 @@
 // The fabric: cells and tracks, what its bits make of it, and how it settles.
+#![tactic(auto)]
+
 pub mod grid;
 pub mod laws;
 pub mod parts;

@@ -1,4 +1,6 @@
 // Listings: a configured fabric and its pins as text.
+#![tactic(auto)]
+
 pub mod draft;
 pub mod entries;
 pub mod fault;

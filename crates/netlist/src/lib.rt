@@ -1,4 +1,6 @@
 // Netlists of four-input cells, and the lowering of designs to them.
+#![tactic(auto)]
+
 mod landed;
 pub mod lowering;
 pub mod netlists;

@@ -1,4 +1,6 @@
 // Texts that grow piece by piece.
+#![tactic(auto)]
+
 ghost use Rattle.std.specs.Prelude.{◌≡◌, ◌<◌, true, false, [], ◌∷◌, string_bytes, decimal, MatchResult};
 ghost use Rattle.pages.specs.Growth.{Adds};
 

@@ -1,4 +1,6 @@
 // A player of designs: what a design shows to a stream of inputs, tick by tick.
+#![tactic(auto)]
+
 mod bits;
 mod comparing;
 pub mod fault;

@@ -1,4 +1,6 @@
 // Tests of the player of designs.
+#![tactic(auto)]
+
 #[cfg(test)]
 mod tests {
     use design::encoded::Encoded;

@@ -1,4 +1,6 @@
 // Plays a stream on a listing, and prints what is shown tick by tick.
+#![tactic(auto)]
+
 use stream::commands::simulate;
 use stream::files::{Failed, argument, arguments, fail, load, print, say};
 

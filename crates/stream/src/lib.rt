@@ -1,4 +1,6 @@
 // Streams as texts, the playing of a stream on a listing, designs put on a fabric, and messages.
+#![tactic(auto)]
+
 pub mod commands;
 pub mod files;
 pub mod messages;

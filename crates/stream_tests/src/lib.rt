@@ -1,4 +1,6 @@
 // Tests of listings, streams and messages.
+#![tactic(auto)]
+
 #[cfg(test)]
 mod tests {
     use design::encoded::Encoded;

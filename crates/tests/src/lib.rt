@@ -1,4 +1,6 @@
 // A worked example as a theorem, and the tests of all crates. They stand apart, since a crate with tests is proved twice.
+#![tactic(auto)]
+
 #[cfg(test)]
 mod designs;
 #[cfg(test)]

@@ -1,3 +1,5 @@
 // Texts as lines, words and numbers.
+#![tactic(auto)]
+
 pub mod cutting;
 pub mod numbers;

@@ -3,7 +3,7 @@ use Rattle.design.proofs.Reading.{Long, refuses_length, refuses_count, refuses_n
 use Rattle.design.proofs.faults.fault.Goals as goal
 
 pub returns-then-numbers-expected : goal.returns-then-numbers-expected
-returns-then-numbers-expected c = refuses_length c.args.numbers.now c.expected-length-expected.result c.expected-length-expected.ensures c.if-numbers-expected.true
+returns-then-numbers-expected c = refuses_length c.args.numbers.now c.expected_length-expected.result c.expected_length-expected.ensures c.if-numbers-expected.true
 
 pub returns-then-nodes-gt-MOST-NODES : goal.returns-then-nodes-gt-MOST-NODES
 returns-then-nodes-gt-MOST-NODES c =
@@ -12,7 +12,7 @@ returns-then-nodes-gt-MOST-NODES c =
 
 pub returns-in-Some : goal.returns-in-Some
 returns-in-Some c =
-    let h : Long c.args.numbers.now = record { long = c.if-numbers-expected.false ∙ c.expected-length-expected.ensures; small = λ k. omega (arith, c.type-inv.numbers k) } in
+    let h : Long c.args.numbers.now = record { long = c.if-numbers-expected.false ∙ c.expected_length-expected.ensures; small = λ k. omega (arith, c.ok.numbers k) } in
     refuses_node c.args.numbers.now c.in-Some.n h (omega arith) (sym c.bad-node.ensures ∙ c.in-Some.is)
 
 pub returns-in-Some-dangling-register : goal.returns-in-Some-dangling-register
@@ -32,7 +32,7 @@ returns-in-Some-dangling-output c =
 
 pub returns : goal.returns
 returns c =
-    let h : Long c.args.numbers.now = record { long = c.if-numbers-expected.false ∙ c.expected-length-expected.ensures; small = λ k. omega (arith, c.type-inv.numbers k) } in
+    let h : Long c.args.numbers.now = record { long = c.if-numbers-expected.false ∙ c.expected_length-expected.ensures; small = λ k. omega (arith, c.ok.numbers k) } in
     refuses_nothing c.args.numbers.now h (omega arith)
     (sym c.bad-node.ensures ∙ c.in-default.is)
     (sym c.dangling-register.ensures ∙ c.in-default-dangling-register.is)

@@ -10,7 +10,7 @@ returns-in-Input c = elim c.in-Input.is [ inl p ↦ simp p.1 | inr s ↦ elim s 
 pub returns-in-And : goal.returns-in-And
 unfolding names_below
 returns-in-And c =
-    let e = c.both-below-in-And.ensures in
+    let e = c.both_below-in-And.ensures in
     elim c.in-And.is [ inl p ↦ simp p e | inr s ↦ elim s [ inl p ↦ simp p e | inr p ↦ simp p e ] ]
 
 pub returns-in-Not : goal.returns-in-Not
@@ -20,12 +20,12 @@ returns-in-Not c = simp c.in-Not.is
 pub returns-in-Add : goal.returns-in-Add
 unfolding names_below
 returns-in-Add c =
-    let e = c.both-below-in-Add.ensures in
+    let e = c.both_below-in-Add.ensures in
     elim c.in-Add.is [ inl p ↦ simp p e | inr s ↦ elim s [ inl p ↦ simp p e | inr p ↦ simp p e ] ]
 
 pub returns-then-choice-n : goal.returns-then-choice-n
 unfolding names_below
-returns-then-choice-n c = let e = c.both-below.ensures in simp (c.in-Mux.is, lt-ltb c.in-Mux.choice c.args.n c.if-choice-n.true) e
+returns-then-choice-n c = let e = c.both_below.ensures in simp (c.in-Mux.is, lt-ltb c.in-Mux.choice c.args.n c.if-choice-n.true) e
 
 pub returns-else-choice-n : goal.returns-else-choice-n
 unfolding names_below
@@ -37,4 +37,4 @@ returns-in-Slice c = simp c.in-Slice.is
 
 pub returns-in-Concat : goal.returns-in-Concat
 unfolding names_below
-returns-in-Concat c = simp c.in-Concat.is c.both-below-in-Concat.ensures
+returns-in-Concat c = simp c.in-Concat.is c.both_below-in-Concat.ensures

@@ -46,8 +46,8 @@ pub returns : goal.returns
 returns c =
     let xs = list_of c.args.design in
     let r = subst (Registers c.in-Ok.cells) c.new-analysis.ensures c.in-Ok.ensures in
-    let o = subst (Outputs c.in-Ok-check-outputs.counts.bits c.in-Ok-check-outputs.counts.cells) c.new-analysis.ensures c.in-Ok-check-outputs.ensures in
-    let i = c.in-Ok-check-inputs.ensures in (
+    let o = subst (Outputs c.in-Ok-check_outputs.counts.bits c.in-Ok-check_outputs.counts.cells) c.new-analysis.ensures c.in-Ok-check_outputs.ensures in
+    let i = c.in-Ok-check_inputs.ensures in (
       refuses_none (design_in xs) r.0 o.0 i.0,
-      counted (design_in xs) _ c.in-Ok.cells c.in-Ok-check-outputs.counts.cells i.1 o.1 r.1 o.2 c.capped-cells.ensures c.capped.ensures,
+      counted (design_in xs) _ c.in-Ok.cells c.in-Ok-check_outputs.counts.cells i.1 o.1 r.1 o.2 c.capped-cells.ensures c.capped.ensures,
     )

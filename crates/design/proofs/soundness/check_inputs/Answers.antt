@@ -23,9 +23,9 @@ pub loop-k-preserved : goal.loop-k-preserved
 loop-k-preserved c =
     let d = design_of c.args.design in
     let k = c.loop-k.k in
-    let w = c.input-width-width.result in (
-      first_more (input_sound d) k c.loop-k.invariant.0 (sym (input_test d k w c.input-width-width.ensures) ∙ sym c.width_ok.ensures ∙ c.if-not-width-ok.false),
-      total_step d.input_width k c.loop-k.bits w c.loop-k.invariant.1 c.input-width-width.ensures,
+    let w = c.input_width-width.result in (
+      first_more (input_sound d) k c.loop-k.invariant.0 (sym (input_test d k w c.input_width-width.ensures) ∙ sym c.width_ok.ensures ∙ c.if-not-width_ok.false),
+      total_step d.input_width k c.loop-k.bits w c.loop-k.invariant.1 c.input_width-width.ensures,
       omega arith,
     )
 

@@ -16,19 +16,19 @@ returns-then-not-summary c =
     let xs = list_of c.args.analysis.now.design in
     let d = design_of c.args.analysis.now.design in
     let k = c.loop-k.k in
-    let s = c.output-summary-summary.result in
+    let s = c.output_summary-summary.result in
     let l : k < d.outputs = omega (arith, outputs_in xs) in
     first_found (output_sound d) k d.outputs c.loop-k.invariant.0
-    (sym (output_test d k s (c.output-summary-summary.ensures l)) ∙ not-true s.formed c.if-not-summary.true) l
+    (sym (output_test d k s (c.output_summary-summary.ensures l)) ∙ not-true s.formed c.if-not-summary.true) l
 
 pub loop-k-preserved : goal.loop-k-preserved
 loop-k-preserved c =
     let xs = list_of c.args.analysis.now.design in
     let d = design_of c.args.analysis.now.design in
     let k = c.loop-k.k in
-    let s = c.output-summary-summary.result in
+    let s = c.output_summary-summary.result in
     let l : k < d.outputs = omega (arith, outputs_in xs) in
-    let sum = c.output-summary-summary.ensures l in
+    let sum = c.output_summary-summary.ensures l in
     let sound = sym (output_test d k s sum) ∙ not-false s.formed c.if-not-summary.false in (
       first_more (output_sound d) k c.loop-k.invariant.0 sound,
       total_step (output_width d) k c.loop-k.bits s.width c.loop-k.invariant.1 (output_wide d k s sum sound),

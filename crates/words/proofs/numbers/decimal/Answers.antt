@@ -6,4 +6,4 @@ returns-then-begins-with-plus c = plus c.args.word.now c.if-begins-with-plus.ens
 
 pub returns : goal.returns
 returns c =
-    rw c.ok.ensures.value (plain c.args.word.now c.parse.result c.parse.ensures.value.0 c.if-begins-with-plus.ensures)
+    rw c.ok.ensures.value (plain c.args.word.now c.parse.result c.parse.ensures.value.0 c.if-begins_with_plus.ensures)

@@ -9,8 +9,8 @@ use Rattle.words.proofs.numbers.is_decimal.Goals.{then-b-lt48-via-then-b-lt48, t
 
 pub returns-then-b-lt48 : goal.returns-then-b-lt48
 returns-then-b-lt48 c =
-    let e : length c.as-bytes-bytes.result.now ≡ length c.args.word.now = ap length c.as-bytes-bytes.ensures.value in
-    let b = ap (λ (ds : List ℕ). get_or ds c.loop-b.b-index 0) c.as-bytes-bytes.ensures.value in
+    let e : length c.as_bytes-bytes.result.now ≡ length c.args.word.now = ap length c.as_bytes-bytes.ensures.value in
+    let b = ap (λ (ds : List ℕ). get_or ds c.loop-b.b-index 0) c.as_bytes-bytes.ensures.value in
     λ n.
     let d = digit_at c.args.word.now c.loop-b.b-index n.1 (omega arith) in
     elim c.then-b-lt48.branch [
@@ -23,4 +23,4 @@ told ds n i e h all =
     let digits = digits_from_all ds (λ k l. all k (omega arith)) in grind (arith, nat_tests)
 
 pub returns : goal.returns
-returns c = told c.args.word.now _ c.loop-b.b-index (ap length c.as-bytes-bytes.ensures.value) c.loop-b-test.false c.loop-b.invariant
+returns c = told c.args.word.now _ c.loop-b.b-index (ap length c.as_bytes-bytes.ensures.value) c.loop-b-test.false c.loop-b.invariant
