@@ -9,5 +9,5 @@ loop-n-init c = first_start (node_ok c.args.numbers.now)
 pub loop-n-preserved : goal.loop-n-preserved
 loop-n-preserved c = first_more (node_ok c.args.numbers.now) c.loop-n.n c.loop-n.invariant (sym c.node_ok.ensures ∙ c.if-not-node_ok.false)
 
-pub returns-then-not-node-ok : goal.returns-then-not-node-ok
-returns-then-not-node-ok c = sym (first_found (node_ok c.args.numbers.now) c.loop-n.n (nodes_of c.args.numbers.now) c.loop-n.invariant (sym c.node-ok.ensures ∙ c.if-not-node-ok.true) (omega arith))
+pub returns-then-not-node_ok : goal.returns-then-not-node_ok
+returns-then-not-node_ok c = sym (first_found (node_ok c.args.numbers.now) c.loop-n.n (nodes_of c.args.numbers.now) c.loop-n.invariant (sym c.node_ok.ensures ∙ c.if-not-node_ok.true) (omega arith))

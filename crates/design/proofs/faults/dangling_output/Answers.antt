@@ -12,6 +12,6 @@ pub loop-output-preserved : goal.loop-output-preserved
 loop-output-preserved c = first_more (output_named c.args.numbers.now) c.loop-output.output c.loop-output.invariant
     (lt-ltb (output_node c.args.numbers.now c.loop-output.output) (nodes_of c.args.numbers.now) (omega arith))
 
-pub returns-then-output-node-nodes : goal.returns-then-output-node-nodes
-returns-then-output-node-nodes c = sym (first_found (output_named c.args.numbers.now) c.loop-output.output (outputs_of c.args.numbers.now) c.loop-output.invariant
+pub returns-then-output_node-nodes : goal.returns-then-output_node-nodes
+returns-then-output_node-nodes c = sym (first_found (output_named c.args.numbers.now) c.loop-output.output (outputs_of c.args.numbers.now) c.loop-output.invariant
     (le-ltb (output_node c.args.numbers.now c.loop-output.output) (nodes_of c.args.numbers.now) (omega arith)) (omega arith))

@@ -12,6 +12,6 @@ pub loop-register-preserved : goal.loop-register-preserved
 loop-register-preserved c = first_more (register_named c.args.numbers.now) c.loop-register.register c.loop-register.invariant
     (lt-ltb (register_node c.args.numbers.now c.loop-register.register) (nodes_of c.args.numbers.now) (omega arith))
 
-pub returns-then-register-node-nodes : goal.returns-then-register-node-nodes
-returns-then-register-node-nodes c = sym (first_found (register_named c.args.numbers.now) c.loop-register.register (registers_of c.args.numbers.now) c.loop-register.invariant
+pub returns-then-register_node-nodes : goal.returns-then-register_node-nodes
+returns-then-register_node-nodes c = sym (first_found (register_named c.args.numbers.now) c.loop-register.register (registers_of c.args.numbers.now) c.loop-register.invariant
     (le-ltb (register_node c.args.numbers.now c.loop-register.register) (nodes_of c.args.numbers.now) (omega arith)) (omega arith))

@@ -55,6 +55,6 @@ pub returns-in-12 : goal.returns-in-12
 unfolding decode
 returns-in-12 c = simp c.in-12.is
 
-pub returns-in-default : goal.returns-in-default
+pub returns-in_default : goal.returns-in_default
 unfolding decode
-returns-in-default c = grind (arith, nat_tests)
+returns-in_default c = grind (arith, nat_tests)

@@ -25,22 +25,22 @@ pub returns-in-Err : goal.returns-in-Err
 returns-in-Err c =
     refuses_register (design_of c.args.design) c.in-Err.k (subst (BadRegister c.in-Err.k) c.new-analysis.ensures c.in-Err.ensures)
 
-pub returns-in-Err-check-outputs : goal.returns-in-Err-check-outputs
-returns-in-Err-check-outputs c =
+pub returns-in-Err-check_outputs : goal.returns-in-Err-check_outputs
+returns-in-Err-check_outputs c =
     let xs = list_of c.args.design in
-    let k = c.in-Err-check-outputs.k in
+    let k = c.in-Err-check_outputs.k in
     let r = subst (Registers c.in-Ok.cells) c.new-analysis.ensures c.in-Ok.ensures in
-    let o = subst (BadOutput k) c.new-analysis.ensures c.in-Err-check-outputs.ensures in
+    let o = subst (BadOutput k) c.new-analysis.ensures c.in-Err-check_outputs.ensures in
     simp (c.registers.ensures, ← (registers_in xs)) (refuses_output (design_in xs) k r.0 o)
 
-pub returns-in-Err-check-inputs : goal.returns-in-Err-check-inputs
-returns-in-Err-check-inputs c =
+pub returns-in-Err-check_inputs : goal.returns-in-Err-check_inputs
+returns-in-Err-check_inputs c =
     let xs = list_of c.args.design in
-    let k = c.in-Err-check-inputs.k in
+    let k = c.in-Err-check_inputs.k in
     let r = subst (Registers c.in-Ok.cells) c.new-analysis.ensures c.in-Ok.ensures in
-    let o = subst (Outputs c.in-Ok-check-outputs.counts.bits c.in-Ok-check-outputs.counts.cells) c.new-analysis.ensures c.in-Ok-check-outputs.ensures in
-    simp (c.registers-in-Err-check-inputs.ensures, c.outputs.ensures, ← (registers_in xs), ← (outputs_in xs))
-    (refuses_input (design_in xs) k r.0 o.0 c.in-Err-check-inputs.ensures)
+    let o = subst (Outputs c.in-Ok-check_outputs.counts.bits c.in-Ok-check_outputs.counts.cells) c.new-analysis.ensures c.in-Ok-check_outputs.ensures in
+    simp (c.registers-in-Err-check_inputs.ensures, c.outputs.ensures, ← (registers_in xs), ← (outputs_in xs))
+    (refuses_input (design_in xs) k r.0 o.0 c.in-Err-check_inputs.ensures)
 
 pub returns : goal.returns
 returns c =

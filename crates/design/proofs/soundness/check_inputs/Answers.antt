@@ -10,14 +10,14 @@ loop-k-init c =
     let d = design_of c.args.design in
     (first_start (input_sound d), sym (total_none d.input_width), omega arith)
 
-pub returns-then-not-width-ok : goal.returns-then-not-width-ok
-returns-then-not-width-ok c =
+pub returns-then-not-width_ok : goal.returns-then-not-width_ok
+returns-then-not-width_ok c =
     let xs = list_of c.args.design in
     let d = design_of c.args.design in
     let k = c.loop-k.k in
     let l : k < d.inputs = omega (arith, inputs_in xs) in
     first_found (input_sound d) k d.inputs c.loop-k.invariant.0
-    (sym (input_test d k c.input-width-width.result c.input-width-width.ensures) ∙ sym c.width_ok.ensures ∙ c.if-not-width-ok.true) l
+    (sym (input_test d k c.input_width-width.result c.input_width-width.ensures) ∙ sym c.width_ok.ensures ∙ c.if-not-width_ok.true) l
 
 pub loop-k-preserved : goal.loop-k-preserved
 loop-k-preserved c =
