@@ -24,9 +24,9 @@ returns-then-settle c =
       refl,
       record {
         settles = c.if-settle.ensures.0;
-        held_length = c.write-held.auto.held;
-        outs_length = c.write-outputs.auto.outs;
-        held_bits = λ e l. c.write-held.ensures e l ∙ ap bit (lookup_agrees z b p (state_of z c.settle.new.levels) (final z b (held_in c.args.kept.now) p) a e l);
-        out_bits = λ e s t l m. c.write-outputs.ensures e s t l m ∙ ap bit (a.tracks e s t l m);
+        held_length = c.write_held.auto.held;
+        outs_length = c.write_outputs.auto.outs;
+        held_bits = λ e l. c.write_held.ensures e l ∙ ap bit (lookup_agrees z b p (state_of z c.settle.new.levels) (final z b (held_in c.args.kept.now) p) a e l);
+        out_bits = λ e s t l m. c.write_outputs.ensures e s t l m ∙ ap bit (a.tracks e s t l m);
       },
     )

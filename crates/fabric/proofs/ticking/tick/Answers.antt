@@ -3,9 +3,9 @@ use Rattle.fabric.specs.Code.{size_of}
 use Rattle.fabric.proofs.Refusing.{played, turned_away}
 use Rattle.fabric.proofs.ticking.tick.Goals as goal
 
-pub invariant-of-play : goal.invariant-of-play
+pub invariant_of-play : goal.invariant_of-play
 unfolding room_length per_cell pads_length
-invariant-of-play c = (c.in-Ok.ensures.bits_length, (c.in-Ok.ensures.pads_all, tt))
+invariant_of-play c = record { bits_len = c.in-Ok.ensures.bits_length; pads_len = c.in-Ok.ensures.pads_all }
 
 pub play-requires : goal.play-requires
 play-requires c = record { held = c.in-Ok.ensures.held_length; outs = c.in-Ok.ensures.outs_length }

@@ -1,8 +1,8 @@
 use Rattle.words.proofs.Decimals.{plain, plus}
 use Rattle.words.proofs.numbers.decimal.Goals as goal
 
-pub returns-then-begins-with-plus : goal.returns-then-begins-with-plus
-returns-then-begins-with-plus c = plus c.args.word.now c.if-begins-with-plus.ensures
+pub returns-then-begins_with_plus : goal.returns-then-begins_with_plus
+returns-then-begins_with_plus c = plus c.args.word.now c.if-begins_with_plus.ensures
 
 pub returns : goal.returns
 returns c =

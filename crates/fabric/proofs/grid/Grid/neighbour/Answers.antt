@@ -5,11 +5,11 @@ use Rattle.fabric.specs.declared.parts.Side.TheVariants.{Right, Below, Left, Abo
 use Rattle.fabric.proofs.Indices.{stepped, left_of_some, above_some}
 use Rattle.fabric.proofs.grid.Grid.neighbour.Goals as goal
 
-pub overflow-sub-result : goal.overflow-sub-result
-overflow-sub-result c = left_of_some (size_of c.args.self) c.args.cell c.args.side c.in-Left.is c.requires.open
+pub overflow_sub-result : goal.overflow_sub-result
+overflow_sub-result c = left_of_some (size_of c.args.self) c.args.cell c.args.side c.in-Left.is c.requires.open
 
-pub overflow-sub-result-in-Above : goal.overflow-sub-result-in-Above
-overflow-sub-result-in-Above c = above_some (size_of c.args.self) c.args.cell c.args.side c.in-Above.is c.requires.open
+pub overflow_sub-result-in-Above : goal.overflow_sub-result-in-Above
+overflow_sub-result-in-Above c = above_some (size_of c.args.self) c.args.cell c.args.side c.in-Above.is c.requires.open
 
 pub returns-in-Right : goal.returns-in-Right
 unfolding neighbour

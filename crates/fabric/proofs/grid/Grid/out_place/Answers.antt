@@ -13,11 +13,11 @@ inside g k l = out_below (cell_count (size_of g)) g.tracks k g.some_tracks l
 few : (g : Grid) → signal_count (size_of g) ≤ 32000
 few g = omega (arith, g.fits)
 
-pub overflow-mul-result : goal.overflow-mul-result
-overflow-mul-result c = omega (arith, inside c.args.self c.args.place c.requires, few c.args.self)
+pub overflow_mul-result : goal.overflow_mul-result
+overflow_mul-result c = omega (arith, inside c.args.self c.args.place c.requires, few c.args.self)
 
-pub overflow-add-result-3 : goal.overflow-add-result-3
-overflow-add-result-3 c = omega (arith, inside c.args.self c.args.place c.requires, few c.args.self)
+pub overflow_add-result-3 : goal.overflow_add-result-3
+overflow_add-result-3 c = omega (arith, inside c.args.self c.args.place c.requires, few c.args.self)
 
 pub returns : goal.returns
 returns c = record { is = refl; inside = inside c.args.self c.args.place c.requires }

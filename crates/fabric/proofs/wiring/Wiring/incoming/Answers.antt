@@ -3,16 +3,16 @@ use Rattle.fabric.specs.Code.{grid_of, pads_of}
 use Rattle.fabric.proofs.Readings.{pads_all, incoming_pad, incoming_track}
 use Rattle.fabric.proofs.wiring.Wiring.incoming.Goals as goal
 
-pub bounds-self-pad-place : goal.bounds-self-pad-place
-bounds-self-pad-place c = omega (arith, pads_all c.args.self, c.pad_place.ensures.inside)
+pub bounds-self-pad_place : goal.bounds-self-pad_place
+bounds-self-pad_place c = omega (arith, pads_all c.args.self, c.pad_place.ensures.inside)
 
-pub returns-then-at-edge : goal.returns-then-at-edge
-returns-then-at-edge c =
+pub returns-then-at_edge : goal.returns-then-at_edge
+returns-then-at_edge c =
     incoming_pad (grid_of c.args.self) c.args.self.pads.now _ c.args.cell c.args.side c.args.track c.pad_place.result
-    c.if-at-edge.ensures c.pad_place.ensures.is
+    c.if-at_edge.ensures c.pad_place.ensures.is
 
-pub returns-else-at-edge : goal.returns-else-at-edge
-returns-else-at-edge c =
+pub returns-else-at_edge : goal.returns-else-at_edge
+returns-else-at_edge c =
     incoming_track (grid_of c.args.self) (pads_of c.args.self) c.args.levels.now c.args.cell c.args.side c.args.track
     c.track_place.result c.neighbour.result c.opposite.result
-    c.if-at-edge.ensures c.track_place.ensures.is c.neighbour.ensures.is c.opposite.ensures
+    c.if-at_edge.ensures c.track_place.ensures.is c.neighbour.ensures.is c.opposite.ensures

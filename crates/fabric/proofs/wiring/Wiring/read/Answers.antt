@@ -9,7 +9,7 @@ returns-in-Nothing c = read_nothing _ _ _ c.args.cell c.args.source c.in-Nothing
 pub returns-in-Own : goal.returns-in-Own
 unfolding state_of
 returns-in-Own c =
-    ap (λ k. get_or c.args.levels.now k false) c.cell-place.ensures.is
+    ap (λ k. get_or c.args.levels.now k false) c.cell_place.ensures.is
     ∙ read_own (grid_of c.args.self) (pads_of c.args.self) (state_of (grid_of c.args.self) c.args.levels.now) c.args.cell c.args.source c.in-Own.is
 
 pub returns-then-track-self : goal.returns-then-track-self

@@ -26,7 +26,7 @@ returns-then-done-limit c =
 pub sweeps-preserved : goal.sweeps-preserved
 sweeps-preserved c = (
   swept_more (grid_of c.args.self) (config_of c.args.self) (held_in c.args.held.now) (pads_of c.args.self)
-      c.sweeps.done c.sweeps.levels c.sweep.new.next c.copy-from-slice.new.self c.copy-from-slice.ensures.after
+      c.sweeps.done c.sweeps.levels c.sweep.new.next c.copy_from_slice.new.self c.copy_from_slice.ensures.after
       c.sweeps.invariant.0 c.sweep.ensures,
   omega (arith, c.sweeps.invariant.1, c.if-done-limit.false),
 )
