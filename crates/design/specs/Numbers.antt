@@ -5,14 +5,14 @@
 -- the number that it begins with and its node; for each output its node; then the nodes, four numbers each: the kind and up to three
 -- operands. Kinds: 0 input i, 1 register r, 2 constant of a width and a value, 3 and, 4 or, 5 xor, 6 not, 7 add, 8 less, 9 equal,
 -- 10 mux (choice, one, zero), 11 slice (low bit, width, node), 12 concat (high, low). A node names earlier nodes only.
-use Rattle.std.specs.Prelude.{ℕ, zero, suc, ◌+◌, ◌*◌, min, Bool, true, false, cond, not, ◌&&◌, ltb, List, [], ◌∷◌, length, is_some, Some, None, Option, ◌==◌, nat_le, nat_lt, slice_index}
+use Rattle.std.specs.Prelude.{ℕ, zero, suc, ◌+◌, ◌*◌, Bool, true, false, cond, not, ◌&&◌, ltb, List, length, Some, None, Option, ◌==◌, nat_le, nat_lt, slice_index}
 use Rattle.std.specs.Option.{option_or, option_map}
 use Rattle.std.specs.Bool.{then_some}
 use Rattle.design.specs.declared.node.Node.{Node}
 use Rattle.design.specs.declared.node.Node.TheVariants.{Input, Register, Constant, And, Or, Xor, Not, Add, Less, Equal, Mux, Slice, Concat}
 use Rattle.design.specs.declared.refusal.Refusal.{Refusal}
 use Rattle.design.specs.declared.refusal.Refusal.TheVariants.{DesignLength, NumberTooLarge, TooManyNodes, BadNode, NoSuchNode, UnsoundRegister, UnsoundOutput, UnsoundInput}
-use Rattle.design.specs.Designs.{word, Expr, Design, input, register, constant, width, cells, register_sound, output_sound, input_sound}
+use Rattle.design.specs.Designs.{word, Expr, Design, input, register, constant, register_sound, output_sound, input_sound}
 use Rattle.design.specs.Designs.{and as and_expr, or as or_expr, xor as xor_expr, not as not_expr, add, less, equal, mux, slice, concat}
 
 -- 1. The list.

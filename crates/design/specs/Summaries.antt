@@ -1,5 +1,5 @@
 -- What a summary says of an expression. Only proofs and the contracts of inner functions use this.
-use Rattle.std.specs.Prelude.{◌≡◌, ℕ, ◌<◌, min, Bool, true, false, List, get_or, slice_index_or}
+use Rattle.std.specs.Prelude.{◌≡◌, ℕ, ◌<◌, min, true, false, List, get_or, slice_index_or}
 use Rattle.design.specs.declared.summary.Summary.{Summary}
 use Rattle.design.specs.Designs.{Design, Expr, width, well_formed, cells}
 

@@ -1,11 +1,11 @@
 -- Ranks settle a fabric, and it is decided whether a fabric settles.
-use Rattle.std.proofs.Common.{◌≡◌, ℕ, zero, suc, ◌+◌, ◌*◌, ◌<◌, ◌≤◌, Bool, true, false, cond, ltb, ◌⊎◌, sym, refl, ap, ◌∙◌, subst, inl, inr, arith}
+use Rattle.std.proofs.Common.{◌≡◌, ℕ, zero, suc, ◌+◌, ◌*◌, ◌<◌, ◌≤◌, Bool, true, false, cond, ltb, ◌⊎◌, refl, ◌∙◌, subst, inl, inr, arith}
 use Rattle.std.proofs.lemmas.Bool.Decides.{nat_tests}
 use Rattle.fabric.specs.declared.parts.Side.{Side}
 use Rattle.fabric.specs.declared.parts.Side.TheVariants.{Right, Below, Left, Above}
 use Rattle.fabric.specs.declared.parts.Source.{Source}
 use Rattle.fabric.specs.declared.parts.Source.TheVariants.{Nothing, Own, Track}
-use Rattle.fabric.specs.Fabrics.{Size, cell_count, opposite, at_edge, neighbour, Config, Signals, Pads, lookup, read, sweep, swept, dark, final, enough, Agree, Settles}
+use Rattle.fabric.specs.Fabrics.{Size, cell_count, opposite, neighbour, Config, Signals, Pads, lookup, sweep, swept, dark, final, enough, Agree}
 use Rattle.fabric.specs.Laws.{Rank, ReadsBelow, Ranked, RanksSettle, SettlingIsDecided}
 use Rattle.fabric.proofs.Geometry.{neighbour_inside}
 use Rattle.fabric.proofs.Sweeps.{agree_sym, agree_trans, sweep_agrees, SameAt, read_same, lookup_same}

@@ -1,7 +1,6 @@
 -- Agreement of states, and sweeps of states that agree.
 use Rattle.std.proofs.Common.{◌≡◌, ℕ, zero, suc, ◌<◌, Bool, true, false, cond, ltb, sym, refl, ap, ◌∙◌, arith}
 use Rattle.std.proofs.lemmas.Bool.Decides.{nat_tests}
-use Rattle.fabric.specs.declared.parts.Side.{Side}
 use Rattle.fabric.specs.declared.parts.Source.{Source}
 use Rattle.fabric.specs.declared.parts.Source.TheVariants.{Nothing, Own, Track}
 use Rattle.fabric.specs.Fabrics.{Size, cell_count, opposite, at_edge, neighbour, Config, Signals, Pads, incoming, read, lookup, sweep, swept, Agree}

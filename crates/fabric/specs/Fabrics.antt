@@ -1,6 +1,6 @@
 -- A fabric of look-up cells and tracks, what a configuration makes of it, and how it settles.
 -- A reader has to believe these definitions. They assume nothing.
-use Rattle.std.specs.Prelude.{◌≡◌, ℕ, zero, suc, ◌+◌, ◌-◌, ◌*◌, ◌/◌, ◌%◌, ◌<◌, ◌≤◌, Bool, true, false, cond, List, [], ◌∷◌, ◌==◌, nat_lt}
+use Rattle.std.specs.Prelude.{◌≡◌, ℕ, zero, suc, ◌+◌, ◌-◌, ◌*◌, ◌/◌, ◌%◌, ◌<◌, Bool, false, cond, List, [], ◌∷◌, ◌==◌, nat_lt}
 use Rattle.design.specs.Designs.{bit}
 use Rattle.fabric.specs.declared.parts.Side.{Side}
 use Rattle.fabric.specs.declared.parts.Side.TheVariants.{Right, Below, Left, Above}

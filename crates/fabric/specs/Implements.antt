@@ -1,9 +1,9 @@
 -- When a configuration and pins implement a design.
 -- A reader has to believe these definitions. They assume nothing.
-use Rattle.std.specs.Prelude.{◌≡◌, ℕ, ◌<◌, Bool, true, List, [], ◌∷◌}
+use Rattle.std.specs.Prelude.{◌≡◌, ℕ, ◌<◌, true, List, [], ◌∷◌}
 use Rattle.design.specs.Designs.{Words, Design, output_width, output_at}
 use Rattle.fabric.specs.declared.parts.Pin.{Pin}
-use Rattle.fabric.specs.Fabrics.{Size, cell_count, at_edge, Config, Signals, Pads, final, Settles, held_after}
+use Rattle.fabric.specs.Fabrics.{Size, cell_count, at_edge, Config, Pads, final, Settles, held_after}
 
 -- where bit k of word i goes in, or comes out
 abbrev pub Pins : Type 0

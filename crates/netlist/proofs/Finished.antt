@@ -1,12 +1,12 @@
 -- A netlist that is laid out computes what the design computes.
-use Rattle.std.proofs.Common.{◌≡◌, ℕ, zero, suc, ◌+◌, ◌*◌, ◌<◌, ◌≤◌, Bool, true, false, cond, ◌≢◌, ◌⊎◌, List, [], ◌∷◌, length, get_or, set, sym, refl, ap, ◌∙◌, inl, inr, ⊎_elim, arith}
+use Rattle.std.proofs.Common.{◌≡◌, ℕ, zero, suc, ◌+◌, ◌<◌, ◌≤◌, Bool, true, false, cond, List, get_or, sym, refl, ap, ◌∙◌, inr, ⊎_elim, arith}
 use Rattle.std.proofs.lemmas.Bool.{cases_lt}
-use Rattle.design.specs.Designs.{Words, Design, Expr, eval, total, input_bits, output_width}
+use Rattle.design.specs.Designs.{Words, Design, eval, total, input_bits, output_width}
 use Rattle.netlist.specs.declared.parts.Net.{Net}
-use Rattle.netlist.specs.declared.parts.Net.TheVariants.{Zero, Input, Cell}
+use Rattle.netlist.specs.declared.parts.Net.TheVariants.{Input, Cell}
 use Rattle.netlist.specs.declared.parts.Cell.{Cell as CellT}
-use Rattle.netlist.specs.Netlists.{Netlist, net_level, cell_address, cell_lookup, Consistent, BitsOf, Lowers}
-use Rattle.netlist.specs.Building.{register_cell, cell_at, input_of, netlist_in, looked_up, Fits, Carries, GateOk, Complete, Single}
+use Rattle.netlist.specs.Netlists.{net_level, cell_address, cell_lookup, Consistent, BitsOf, Lowers}
+use Rattle.netlist.specs.Building.{register_cell, cell_at, input_of, netlist_in, looked_up, Fits, Complete, Single}
 use Rattle.netlist.proofs.Gates.{register_looks_up}
 use Rattle.netlist.proofs.Growing.{total_ones}
 

@@ -1,9 +1,9 @@
 -- What the cells that lowering makes look up.
-use Rattle.std.proofs.Common.{◌≡◌, ℕ, ◌+◌, ◌*◌, ◌/◌, ◌%◌, Bool, true, false, ◌&&◌, eqb, List, [], ◌∷◌, sym, refl, ap, ◌∙◌, div-one}
+use Rattle.std.proofs.Common.{◌≡◌, ℕ, ◌+◌, ◌*◌, ◌%◌, Bool, true, false, ◌&&◌, eqb, refl, div-one}
 use mathlib.Core.Bool.{xor}
 use Rattle.design.specs.Designs.{bit, word}
 use Rattle.netlist.specs.declared.parts.Net.{Net}
-use Rattle.netlist.specs.declared.parts.Net.TheVariants.{Zero, Input, Cell}
+use Rattle.netlist.specs.declared.parts.Net.TheVariants.{Zero}
 use Rattle.netlist.specs.Netlists.{net_level}
 use Rattle.netlist.specs.Building.{gate, register_cell, looked_up}
 

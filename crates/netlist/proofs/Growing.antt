@@ -1,11 +1,11 @@
 -- A netlist that grows: what was right of it stays right.
-use Rattle.std.proofs.Common.{◌≡◌, ℕ, zero, suc, ◌+◌, ◌*◌, ◌<◌, ◌≤◌, Bool, true, false, ◌≢◌, ◌⊎◌, List, [], ◌∷◌, length, get_or, set, sym, refl, ap, ◌∙◌, inl, inr, ⊎_elim, arith, get_or-set_other, get_or-set_same}
+use Rattle.std.proofs.Common.{◌≡◌, ℕ, zero, suc, ◌+◌, ◌<◌, ◌≤◌, Bool, ◌≢◌, List, length, get_or, set, sym, refl, ap, ◌∙◌, inl, inr, ⊎_elim, arith, get_or-set_other, get_or-set_same}
 use Rattle.std.proofs.lemmas.Bool.{cases_eq}
 use Rattle.design.specs.Designs.{Words, Design, Expr, eval, total, input, register}
 use Rattle.netlist.specs.declared.parts.Net.{Net}
 use Rattle.netlist.specs.declared.parts.Net.TheVariants.{Zero, Input, Cell}
 use Rattle.netlist.specs.declared.parts.Cell.{Cell as CellT}
-use Rattle.netlist.specs.Netlists.{net_level, BitsOf}
+use Rattle.netlist.specs.Netlists.{net_level}
 use Rattle.netlist.specs.Building.{gate, blank, cell_at, input_of, looked_up, Fits, Carries, GateOk, Built, Extends}
 use Rattle.netlist.proofs.Gates.{GivesOp, gate_looks_up}
 

@@ -1,15 +1,10 @@
 -- Which designs can be lowered: what the tests of the code say.
-use Rattle.std.proofs.Common.{◌≡◌, ℕ, ◌<◌, Bool, true, false, ◌||◌, eqb, List, is_some, Some, None, Option, sym, refl, ap, ◌∙◌}
-use Rattle.std.specs.Option.{option_or, option_map}
-use Rattle.std.specs.Bool.{then_some}
-use Rattle.std.proofs.lemmas.Bool.{eq-eqb, ne_eqb, eqb-true}
+use Rattle.std.proofs.Common.{◌≡◌, ℕ, Bool, true, false, List, is_some, Some, None, Option, refl}
+use Rattle.std.proofs.lemmas.Bool.{eq-eqb, ne_eqb}
 use Rattle.design.specs.declared.node.Node.{Node}
-use Rattle.design.specs.declared.refusal.Refusal.{Refusal}
 use Rattle.design.specs.declared.refusal.Refusal.TheVariants.{NotYet}
-use Rattle.design.specs.Numbers.{inputs_of, registers_of, nodes_of, node_in, first_failing, design_in, reading_refusal}
-use Rattle.design.proofs.First.{first_none}
+use Rattle.design.specs.Numbers.{nodes_of, node_in, first_failing, design_in}
 use Rattle.netlist.specs.NotYet.{kind_landed, node_landed, input_single, register_single, wide, lowering_refusal}
-use Rattle.netlist.specs.Shapes.{Bitwise}
 
 at_node : (o : Option Node) (node : Node) → o ≡ Some node → kind_landed node ≡ (elim o [ None ↦ false | Some node ↦ kind_landed node ])
 at_node o node h = rw h

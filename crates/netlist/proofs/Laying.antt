@@ -1,16 +1,15 @@
 -- The steps of laying out a node.
-use Rattle.std.proofs.Common.{◌≡◌, ℕ, zero, suc, ◌+◌, ◌<◌, ◌≤◌, Bool, true, false, ◌⊎◌, List, length, get_or, set, Some, None, sym, refl, ap, ◌∙◌, inl, inr, ⊎_elim, arith}
+use Rattle.std.proofs.Common.{◌≡◌, ℕ, ◌+◌, ◌<◌, ◌≤◌, List, length, get_or, set, Some, refl, ◌∙◌, ⊎_elim, arith}
 use Rattle.design.specs.declared.node.Node.{Node}
-use Rattle.design.specs.Designs.{cells}
 use Rattle.design.specs.Numbers.{nodes_of, node_in, design_in}
-use Rattle.design.proofs.Reading.{Readable, readable}
+use Rattle.design.proofs.Reading.{readable}
 use Rattle.netlist.specs.declared.parts.Net.{Net}
 use Rattle.netlist.specs.declared.parts.Net.TheVariants.{Zero, Cell}
 use Rattle.netlist.specs.declared.parts.Cell.{Cell as CellT}
 use Rattle.netlist.specs.declared.shape.Shape.TheVariants.{Leaf, Gate}
 use Rattle.netlist.specs.declared.work.Work.{Work}
-use Rattle.netlist.specs.Building.{gate, Built, Extends, Carries}
-use Rattle.netlist.specs.Shapes.{shape_of, expr_in, Bitwise, LayAsks, LayGives}
+use Rattle.netlist.specs.Building.{gate}
+use Rattle.netlist.specs.Shapes.{shape_of, expr_in, LayAsks, LayGives}
 use Rattle.netlist.proofs.Growing.{extends_refl, extends_trans, extends_push, extends_from, carries_more, built_push, built_note, gate_ok, gate_carries}
 use Rattle.netlist.proofs.Nodes.{GateFacts, gate_facts, leaf_facts}
 

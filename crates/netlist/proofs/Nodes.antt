@@ -1,16 +1,15 @@
 -- What is known of the nodes of a design of single bits.
-use Rattle.std.proofs.Common.{◌≡◌, ℕ, zero, suc, ◌+◌, ◌<◌, ◌≤◌, Bool, true, false, ◌&&◌, eqb, ltb, List, Some, None, Option, sym, refl, ap, ◌∙◌, arith}
+use Rattle.std.proofs.Common.{◌≡◌, ℕ, zero, suc, ◌+◌, ◌<◌, ◌≤◌, Bool, true, false, ◌&&◌, ltb, List, Some, None, Option, sym, refl, ap, ◌∙◌, arith}
 use mathlib.Core.Bool.{xor}
-use Rattle.std.proofs.lemmas.Bool.{ltb-true, and_parts, eqb-true, false≢true}
+use Rattle.std.proofs.lemmas.Bool.{ltb-true, and_parts, false≢true}
 use Rattle.design.specs.declared.node.Node.{Node}
 use Rattle.design.specs.declared.node.Node.TheVariants.{Input, Register, Constant, And, Or, Xor, Not, Add, Less, Equal, Mux, Slice, Concat}
-use Rattle.design.specs.Designs.{Words, Expr, Design, width, well_formed, cells, eval, input, register}
+use Rattle.design.specs.Designs.{Words, Expr, Design, width, well_formed, cells, eval}
 use Rattle.design.specs.Designs.{and as and_expr, xor as xor_expr}
-use Rattle.design.specs.Numbers.{nodes_of, node_in, names_below, expr_of, expr_at, reading_refusal, design_in}
+use Rattle.design.specs.Numbers.{nodes_of, node_in, names_below, expr_of, design_in}
 use Rattle.design.proofs.Exprs.{operands_below, expr_at_node}
 use Rattle.netlist.specs.declared.parts.Net.{Net}
 use Rattle.netlist.specs.declared.parts.Cell.{Cell as CellT}
-use Rattle.netlist.specs.declared.shape.Shape.{Shape}
 use Rattle.netlist.specs.declared.shape.Shape.TheVariants.{Leaf, Gate}
 use Rattle.netlist.specs.NotYet.{kind_landed, node_landed}
 use Rattle.netlist.specs.Building.{Carries}

@@ -1,16 +1,16 @@
 -- The steps of laying out the registers and the outputs.
-use Rattle.std.proofs.Common.{◌≡◌, ℕ, zero, suc, ◌+◌, ◌-◌, ◌<◌, ◌≤◌, Bool, true, false, ◌&&◌, eqb, ◌≢◌, ◌⊎◌, List, length, get_or, set, sym, refl, ap, ◌∙◌, inl, inr, ⊎_elim, arith, get_or-set_other, get_or-set_same}
-use Rattle.std.proofs.lemmas.Bool.{cases_eq, cases_lt, and_parts}
-use Rattle.design.specs.Designs.{Expr, Design, Words, Sound, width_ok, well_formed, register_sound, output_sound, width, cells, eval, total, register_cells, output_width, output_cells, plain_cells}
-use Rattle.design.specs.Numbers.{nodes_of, register_node, output_node, registers_of, outputs_of, design_in, expr_at}
+use Rattle.std.proofs.Common.{◌≡◌, ℕ, zero, suc, ◌+◌, ◌<◌, ◌≤◌, true, ◌≢◌, List, length, get_or, set, refl, ap, ◌∙◌, ⊎_elim, arith, get_or-set_other, get_or-set_same}
+use Rattle.std.proofs.lemmas.Bool.{cases_eq, and_parts}
+use Rattle.design.specs.Designs.{Expr, Design, width_ok, well_formed, register_sound, output_sound, cells, total, register_cells, output_width, output_cells, plain_cells}
+use Rattle.design.specs.Numbers.{nodes_of, register_node, output_node, registers_of, outputs_of, design_in}
 use Rattle.design.proofs.Reading.{Readable, readable}
 use Rattle.netlist.specs.declared.parts.Net.{Net}
 use Rattle.netlist.specs.declared.parts.Net.TheVariants.{Zero, Input, Cell}
 use Rattle.netlist.specs.declared.parts.Cell.{Cell as CellT}
 use Rattle.netlist.specs.declared.work.Work.{Work}
 use Rattle.netlist.specs.Netlists.{net_level}
-use Rattle.netlist.specs.Building.{gate, blank, register_cell, cell_at, input_of, looked_up, Built, Extends, Carries, GateOk, RegistersDone, OutputsDone, Complete, Single}
-use Rattle.netlist.specs.Shapes.{expr_in, Bitwise, BuiltIn, LayAsks, LayGives, Lowerable, RegistersAt, OutputsAt}
+use Rattle.netlist.specs.Building.{gate, blank, register_cell, input_of, looked_up, Extends, Carries, GateOk, RegistersDone, OutputsDone, Complete, Single}
+use Rattle.netlist.specs.Shapes.{expr_in, LayAsks, LayGives, Lowerable, RegistersAt, OutputsAt}
 use Rattle.netlist.proofs.Gates.{pass_looks_up}
 use Rattle.netlist.proofs.Growing.{extends_from, extends_push, extends_write, extends_trans, fits_before, carries_more, built_push, built_write}
 use Rattle.netlist.proofs.Nodes.{single_width}

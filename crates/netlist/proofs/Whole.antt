@@ -1,23 +1,20 @@
 -- The lowering as a whole: how it begins, how it ends, and when it refuses.
-use Rattle.std.proofs.Common.{◌≡◌, ℕ, zero, suc, ◌+◌, ◌<◌, ◌≤◌, min, Bool, true, false, cond, not, ◌||◌, eqb, ltb, ◌⊎◌, List, length, get_or, set, is_some, Some, None, Option, sym, refl, ap, ◌∙◌, inl, inr, ⊎_elim, arith}
-use Rattle.std.specs.Option.{option_or, option_map}
+use Rattle.std.proofs.Common.{◌≡◌, ℕ, ◌<◌, ◌≤◌, min, Bool, true, false, ltb, List, get_or, is_some, Some, None, Option, sym, refl, inl, inr, arith}
+use Rattle.std.specs.Option.{option_map}
 use Rattle.std.specs.Bool.{then_some}
 use Rattle.std.proofs.lemmas.Bool.{cases_order, or_parts, eqb-true, lt-ltb, le-ltb, true≢false}
-use Rattle.std.proofs.lemmas.Bool.Decides.{nat_tests}
 use Rattle.design.specs.declared.refusal.Refusal.{Refusal}
 use Rattle.design.specs.declared.refusal.Refusal.TheVariants.{Cells, NotYet}
-use Rattle.design.specs.Designs.{Design, Sound, total, register_cells, output_cells, output_width, plain_cells, output_bits}
+use Rattle.design.specs.Designs.{total, output_width, plain_cells, output_bits}
 use Rattle.design.specs.Numbers.{nodes_of, inputs_of, registers_of, first_failing, soundness_refusal, reading_refusal, design_in}
 use Rattle.design.proofs.First.{first_none}
 use Rattle.design.proofs.Reading.{neither, unmapped}
 use Rattle.design.proofs.Sound.{sound_from_none}
-use Rattle.netlist.specs.declared.parts.Net.{Net}
 use Rattle.netlist.specs.declared.parts.Net.TheVariants.{Zero}
 use Rattle.netlist.specs.declared.work.Work.{Work}
 use Rattle.netlist.specs.declared.netlists.Netlist.{Netlist as NetlistT}
 use Rattle.netlist.specs.NotYet.{node_landed, input_single, register_single, wide, lowering_refusal}
-use Rattle.netlist.specs.Building.{netlist_in}
-use Rattle.netlist.specs.Shapes.{Bitwise, BuiltIn, Lowerable, RegistersAt, OutputsAt, Lowered, lower_refusal}
+use Rattle.netlist.specs.Shapes.{Lowerable, RegistersAt, OutputsAt, Lowered, lower_refusal}
 use Rattle.netlist.proofs.Finished.{lowers}
 use Rattle.netlist.proofs.Growing.{total_ones}
 use Rattle.netlist.proofs.Roots.{single, complete}

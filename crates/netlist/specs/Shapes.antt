@@ -1,6 +1,6 @@
 -- What nodes are laid out as, and which designs can be.
 -- Only proofs use these definitions: no promise to a user names them.
-use Rattle.std.specs.Prelude.{◌≡◌, ℕ, ◌+◌, ◌<◌, ◌≤◌, min, Bool, true, List, None, Option, nat_lt}
+use Rattle.std.specs.Prelude.{◌≡◌, ℕ, ◌+◌, ◌<◌, ◌≤◌, min, true, List, None, Option, nat_lt}
 use Rattle.std.specs.Option.{option_or}
 use Rattle.std.specs.Bool.{then_some}
 use Rattle.design.specs.declared.refusal.Refusal.{Refusal}

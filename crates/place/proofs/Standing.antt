@@ -1,10 +1,7 @@
 -- The cells of the plain placement have places of their own.
-use Rattle.std.proofs.Common.{◌≡◌, ℕ, ◌<◌, ◌≤◌, Bool, true, false, cond, ltb, ◌⊎◌, refl, inl, inr, arith}
+use Rattle.std.proofs.Common.{◌≡◌, ℕ, ◌<◌, ◌≤◌, Bool, true, false, ltb, ◌⊎◌, refl, inl, inr, arith}
 use Rattle.std.proofs.lemmas.Bool.Decides.{nat_tests}
-use Rattle.fabric.specs.Fabrics.{Size, cell_count}
-use Rattle.netlist.specs.declared.parts.Net.{Net}
 use Rattle.netlist.specs.declared.parts.Net.TheVariants.{Zero, Cell}
-use Rattle.place.specs.Places.{Places}
 use Rattle.place.specs.Plain.{plain_occupant, PlainPlaces}
 
 pub occupied : (n c : ℕ) → c < n → plain_occupant n c ≡ Cell c

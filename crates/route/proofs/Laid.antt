@@ -1,21 +1,19 @@
 -- The plain layout lays the netlist out.
-use Rattle.std.proofs.Common.{◌≡◌, ℕ, ◌+◌, ◌-◌, ◌*◌, ◌/◌, ◌%◌, ◌<◌, ◌≤◌, Bool, true, false, cond, ltb, Some, None, MatchBool, Option, unwrap_or, sym, refl, ap, ◌∙◌, arith}
+use Rattle.std.proofs.Common.{◌≡◌, ℕ, ◌+◌, ◌-◌, ◌<◌, ◌≤◌, Bool, true, false, cond, ltb, Some, None, MatchBool, Option, unwrap_or, sym, refl, ap, ◌∙◌, arith}
 use Rattle.std.proofs.lemmas.Bool.Decides.{nat_tests}
 use Rattle.std.specs.Option.{option_map}
 use Rattle.fabric.specs.declared.parts.Side.{Side}
-use Rattle.fabric.specs.declared.parts.Side.TheVariants.{Right, Below, Left, Above}
-use Rattle.fabric.specs.declared.parts.Source.{Source}
-use Rattle.fabric.specs.declared.parts.Source.TheVariants.{Nothing, Own, Track}
+use Rattle.fabric.specs.declared.parts.Side.TheVariants.{Left}
+use Rattle.fabric.specs.declared.parts.Source.TheVariants.{Own, Track}
 use Rattle.fabric.specs.declared.parts.Pin.{Pin}
-use Rattle.fabric.specs.Fabrics.{Size, cell_count, opposite, at_edge, neighbour, Config}
-use Rattle.fabric.specs.Implements.{OnEdge}
+use Rattle.fabric.specs.Fabrics.{Size, cell_count, at_edge, neighbour}
 use Rattle.netlist.specs.declared.parts.Net.{Net}
 use Rattle.netlist.specs.declared.parts.Net.TheVariants.{Zero, Input, Cell}
 use Rattle.netlist.specs.Netlists.{Netlist}
 use Rattle.place.specs.Plain.{plain_occupant}
 use Rattle.place.proofs.Standing.{occupied, occupant_is, occupant_none, plain_places}
-use Rattle.route.specs.Layouts.{Layout, Gives, CellAs, CellBlank, Realizes}
-use Rattle.route.specs.Plain.{toward, distance, plain_source, plain_net, begins, plain_layout, PlainConfig, PlainRealizes}
+use Rattle.route.specs.Layouts.{Gives, CellAs}
+use Rattle.route.specs.Plain.{toward, distance, plain_source, plain_net, begins, plain_layout, PlainRealizes}
 use Rattle.route.specs.Nets.{Exists}
 use Rattle.route.proofs.Ways.{way_ends, way_open, way_nearer, distance_below, first_left, first_above}
 

@@ -1,5 +1,5 @@
 -- The way from a cell toward another: it is open, each step of it comes nearer, and it ends there.
-use Rattle.std.proofs.Common.{◌≡◌, ℕ, ◌+◌, ◌-◌, ◌*◌, ◌/◌, ◌%◌, ◌<◌, ◌≤◌, Bool, true, false, cond, eqb, ltb, Some, None, Option, sym, refl, ap, ◌∙◌, arith}
+use Rattle.std.proofs.Common.{◌≡◌, ℕ, ◌+◌, ◌/◌, ◌%◌, ◌<◌, true, false, Some, None, arith}
 use Rattle.std.proofs.lemmas.Bool.Decides.{nat_tests}
 use Rattle.fabric.specs.declared.parts.Side.{Side}
 use Rattle.fabric.specs.declared.parts.Side.TheVariants.{Right, Below, Left, Above}

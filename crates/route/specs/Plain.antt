@@ -2,13 +2,12 @@
 -- everywhere: input bits first, then cells. At a cell, a net comes from the side that is nearer to where it begins, first along the column
 -- to its row, then along the row; input bits begin at the left edge of cell 0. Output bits go out at the upper edge of cell 0.
 -- Only proofs use these definitions: no promise to a user names them.
-use Rattle.std.specs.Prelude.{◌≡◌, ℕ, ◌+◌, ◌-◌, ◌/◌, ◌%◌, ◌<◌, ◌≤◌, Bool, true, false, cond, Some, None, Option, nat_lt}
+use Rattle.std.specs.Prelude.{◌≡◌, ℕ, ◌+◌, ◌-◌, ◌/◌, ◌%◌, ◌<◌, ◌≤◌, cond, Some, None, Option, nat_lt}
 use Rattle.std.specs.Option.{option_map, unwrap_or}
 use Rattle.fabric.specs.declared.parts.Side.{Side}
 use Rattle.fabric.specs.declared.parts.Side.TheVariants.{Right, Below, Left, Above}
 use Rattle.fabric.specs.declared.parts.Source.{Source}
 use Rattle.fabric.specs.declared.parts.Source.TheVariants.{Nothing, Own, Track}
-use Rattle.fabric.specs.declared.parts.Pin.{Pin}
 use Rattle.fabric.specs.Fabrics.{Size, cell_count, Config}
 use Rattle.netlist.specs.declared.parts.Net.{Net}
 use Rattle.netlist.specs.declared.parts.Net.TheVariants.{Zero, Input, Cell}

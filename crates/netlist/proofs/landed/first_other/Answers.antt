@@ -1,7 +1,6 @@
-use Rattle.std.proofs.Common.{◌≡◌, ◌<◌, None, sym, refl, ◌∙◌, arith}
+use Rattle.std.proofs.Common.{◌≡◌, ◌<◌, sym, refl, ◌∙◌, arith}
 use Rattle.design.specs.Numbers.{nodes_of, first_failing}
 use Rattle.design.proofs.First.{first_more, first_found}
-use Rattle.netlist.specs.NotYet.{node_landed}
 use Rattle.netlist.proofs.LandedTests.{node_test}
 use Rattle.netlist.proofs.landed.first_other.Goals as goal
 

@@ -1,4 +1,4 @@
-use Rattle.std.proofs.Common.{◌≡◌, ◌<◌, None, sym, refl, ◌∙◌, arith}
+use Rattle.std.proofs.Common.{◌≡◌, ◌<◌, sym, refl, ◌∙◌, arith}
 use Rattle.design.specs.Numbers.{inputs_of, first_failing}
 use Rattle.design.proofs.First.{first_more, first_found}
 use Rattle.netlist.proofs.LandedTests.{input_test, input_fails, some_test, none_test}

@@ -1,4 +1,4 @@
-use Rattle.std.proofs.Common.{◌≡◌, ◌<◌, length, get_or, set, Some, sym, refl, ap, ◌∙◌, arith, rules}
+use Rattle.std.proofs.Common.{◌≡◌, length, Some, sym, ap, ◌∙◌, arith}
 use Rattle.design.specs.Numbers.{node_in}
 use Rattle.netlist.specs.declared.shape.Shape.TheVariants.{Leaf, Gate}
 use Rattle.netlist.specs.declared.work.Work.{Work}

@@ -1,5 +1,4 @@
-use Rattle.std.proofs.Common.{◌≡◌, sym, ◌∙◌, arith}
-use Rattle.design.specs.Numbers.{design_in}
+use Rattle.std.proofs.Common.{◌∙◌, arith}
 use Rattle.netlist.proofs.Roots.{outputs_begin}
 use Rattle.netlist.proofs.Whole.{begins, fits_all, finishes}
 use Rattle.netlist.proofs.lowering.build.Goals as goal

@@ -1,6 +1,5 @@
-use Rattle.std.proofs.Common.{◌≡◌, ◌<◌, sym, ap, ◌∙◌, arith}
+use Rattle.std.proofs.Common.{◌≡◌, ◌<◌, arith}
 use Rattle.design.specs.Numbers.{outputs_of, design_in}
-use Rattle.netlist.specs.Shapes.{OutputsAt}
 use Rattle.netlist.proofs.Roots.{output_within, asks_output, output_room, output_step}
 use Rattle.netlist.proofs.lowering.lay_outputs.Goals as goal
 

@@ -1,8 +1,7 @@
-use Rattle.std.proofs.Common.{◌≡◌, ◌<◌, sym, ap, ◌∙◌, arith, rules}
+use Rattle.std.proofs.Common.{◌≡◌, ◌<◌, ap, ◌∙◌, arith}
 use Rattle.design.specs.Designs.{Word}
 use Rattle.design.specs.Numbers.{registers_of, design_in}
 use Rattle.netlist.specs.Building.{register_cell}
-use Rattle.netlist.specs.Shapes.{RegistersAt}
 use Rattle.netlist.proofs.Gates.{low_bit}
 use Rattle.netlist.proofs.Roots.{registers_within, asks_register, register_step}
 use Rattle.netlist.proofs.lowering.lay_registers.Goals as goal

@@ -1,6 +1,5 @@
-use Rattle.std.proofs.Common.{◌≡◌, Some, None, sym, ◌∙◌, arith}
+use Rattle.std.proofs.Common.{sym, ◌∙◌}
 use Rattle.std.proofs.lemmas.Result.{err_from_is_err_and}
-use Rattle.design.specs.Numbers.{design_in}
 use Rattle.netlist.proofs.Whole.{refuses_unsound, refuses_cells, small_enough, passes_on, none_here, lowerable}
 use Rattle.netlist.proofs.lowering.lower.Goals as goal
 

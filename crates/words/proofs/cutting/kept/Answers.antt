@@ -1,4 +1,4 @@
-use Rattle.std.proofs.Common.{◌≡◌, [], filter, ap, ◌∙◌, append-nil, arith, take_all}
+use Rattle.std.proofs.Common.{[], filter, ap, ◌∙◌, append-nil, arith, take_all}
 use Rattle.std.proofs.lemmas.List.Elements.{filter_more}
 use Rattle.std.proofs.lemmas.Bool.Decides.{nat_tests}
 use Rattle.words.specs.Cuts.{some_byte}

@@ -3,22 +3,22 @@ use Rattle.std.proofs.lemmas.Bool.Decides.{nat_tests}
 use Rattle.route.specs.Plain.{toward}
 use Rattle.route.proofs.plain.Plain.toward.Goals as goal
 
-pub returns-then-begin-row-row : goal.returns-then-begin-row-row
+pub returns-then-begin_row-row : goal.returns-then-begin_row-row
 unfolding toward
-returns-then-begin-row-row c = grind (arith, nat_tests)
+returns-then-begin_row-row c = grind (arith, nat_tests)
 
-pub returns-then-row-begin-row : goal.returns-then-row-begin-row
+pub returns-then-row-begin_row : goal.returns-then-row-begin_row
 unfolding toward
-returns-then-row-begin-row c = grind (arith, nat_tests)
+returns-then-row-begin_row c = grind (arith, nat_tests)
 
-pub returns-then-begin-column-column : goal.returns-then-begin-column-column
+pub returns-then-begin_column-column : goal.returns-then-begin_column-column
 unfolding toward
-returns-then-begin-column-column c = grind (arith, nat_tests)
+returns-then-begin_column-column c = grind (arith, nat_tests)
 
-pub returns-then-column-begin-column : goal.returns-then-column-begin-column
+pub returns-then-column-begin_column : goal.returns-then-column-begin_column
 unfolding toward
-returns-then-column-begin-column c = grind (arith, nat_tests)
+returns-then-column-begin_column c = grind (arith, nat_tests)
 
-pub returns-else-column-begin-column : goal.returns-else-column-begin-column
+pub returns-else-column-begin_column : goal.returns-else-column-begin_column
 unfolding toward
-returns-else-column-begin-column c = grind (arith, nat_tests)
+returns-else-column-begin_column c = grind (arith, nat_tests)
