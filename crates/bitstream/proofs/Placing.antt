@@ -1,5 +1,5 @@
 -- The numbers that are written for a cell, and what they make of the fabric.
-use Rattle.std.proofs.Common.{◌≡◌, ℕ, zero, suc, ◌+◌, ◌-◌, ◌*◌, ◌/◌, ◌%◌, ◌^◌, ◌<◌, ◌≤◌, Bool, true, false, cond, eqb, ltb, ◌⊎◌, List, ◌++◌, length, get_or, take, drop, Some, None, Option, unwrap_or, sym, refl, ap, ◌∙◌, ⊎_elim, mul-le-mul_right, add-mul, arith, length-drop, length-take}
+use Rattle.std.proofs.Common.{◌≡◌, ℕ, ◌+◌, ◌-◌, ◌*◌, ◌/◌, ◌%◌, ◌^◌, ◌<◌, ◌≤◌, Bool, true, false, cond, eqb, List, ◌++◌, length, get_or, take, drop, Some, None, Option, unwrap_or, refl, ap, ◌∙◌, ⊎_elim, mul-le-mul_right, add-mul, arith, length-drop, length-take}
 use borrow.Rule.Slice.PartMut.{put_mid, post_of}
 use Rattle.std.proofs.lemmas.List.{length-take-le, get_or_append_left, get_or-append_right, get_or-take}
 use Rattle.std.specs.Option.{option_map}
@@ -9,7 +9,7 @@ use Rattle.design.specs.Designs.{word}
 use Rattle.fabric.specs.declared.parts.Side.{Side}
 use Rattle.fabric.specs.declared.parts.Side.TheVariants.{Left}
 use Rattle.fabric.specs.declared.parts.Source.{Source}
-use Rattle.fabric.specs.declared.parts.Source.TheVariants.{Nothing, Own, Track}
+use Rattle.fabric.specs.declared.parts.Source.TheVariants.{Own, Track}
 use Rattle.fabric.specs.Fabrics.{Size, cell_count}
 use Rattle.fabric.specs.Numbers.{side_number, source_of, per_cell, room_length}
 use Rattle.fabric.specs.declared.grid.Grid.{Grid}

@@ -1,5 +1,5 @@
 -- What is written implements the design.
-use Rattle.std.proofs.Common.{◌≡◌, ℕ, zero, suc, ◌+◌, ◌-◌, ◌*◌, ◌<◌, ◌≤◌, Bool, true, false, cond, eqb, ltb, ◌⊎◌, List, length, get_or, sym, refl, ap, ◌∙◌, subst, ⊎_elim, mul-le-mul_right, add-mul, arith}
+use Rattle.std.proofs.Common.{◌≡◌, ℕ, zero, suc, ◌+◌, ◌-◌, ◌*◌, ◌<◌, ◌≤◌, false, List, length, get_or, sym, refl, ap, ◌∙◌, subst, ⊎_elim, mul-le-mul_right, add-mul, arith}
 use native.Mathlib.Nat.{zero-div}
 use Rattle.std.proofs.lemmas.Nat.{mul-lt}
 use Rattle.std.proofs.lemmas.Bool.{cases_lt, lt-ltb, le-ltb}
@@ -8,22 +8,21 @@ use Rattle.fabric.specs.declared.parts.Side.{Side}
 use Rattle.fabric.specs.declared.parts.Side.TheVariants.{Above}
 use Rattle.fabric.specs.declared.parts.Pin.{Pin}
 use Rattle.fabric.specs.declared.parts.Source.TheVariants.{Nothing}
-use Rattle.fabric.specs.Fabrics.{Size, cell_count, Config}
-use Rattle.fabric.specs.Implements.{Implements}
-use Rattle.fabric.specs.Numbers.{side_number, source_of, per_cell, config_in, PinAt}
+use Rattle.fabric.specs.Fabrics.{Size, cell_count}
+use Rattle.fabric.specs.Numbers.{side_number, per_cell, config_in, PinAt}
 use Rattle.fabric.proofs.Coding.{side_number_small}
 use Rattle.netlist.specs.declared.parts.Net.{Net}
 use Rattle.netlist.specs.declared.parts.Net.TheVariants.{Zero, Input, Cell}
 use Rattle.netlist.specs.declared.parts.Cell.{Cell as CellT}
 use Rattle.netlist.specs.Building.{blank, cell_at, input_of}
-use Rattle.netlist.specs.Shapes.{netlist_of, Lowered}
+use Rattle.netlist.specs.Shapes.{netlist_of}
 use Rattle.route.specs.Nets.{Exists}
-use Rattle.route.specs.Layouts.{Realizes, CellBlank}
-use Rattle.route.specs.Plain.{plain_source, plain_net, plain_layout, PlainConfig}
+use Rattle.route.specs.Layouts.{Realizes}
+use Rattle.route.specs.Plain.{plain_source, plain_layout, PlainConfig}
 use Rattle.route.proofs.Laid.{plain_realizes}
 use Rattle.bitstream.specs.declared.plans.Plan.{Plan}
 use Rattle.bitstream.specs.Puts.{pin_count, Puts}
-use Rattle.bitstream.specs.Plans.{grid_of, inputs_of, count_of, cell_of, NetsExist, OutputsExist, Planned, NumberAt, CellsWritten, pin_of, PinsWritten}
+use Rattle.bitstream.specs.Plans.{grid_of, inputs_of, count_of, cell_of, NetsExist, OutputsExist, Planned, NumberAt, CellsWritten, PinsWritten}
 use Rattle.bitstream.specs.Theorem.{input_pins, output_pins}
 use Rattle.bitstream.proofs.Implementation.{layouts_implement}
 use Rattle.bitstream.proofs.Pins.{pin_in, pin_out}

@@ -1,5 +1,5 @@
 -- Which refusal is answered.
-use Rattle.std.proofs.Common.{◌≡◌, ℕ, zero, suc, ◌+◌, ◌*◌, ◌<◌, ◌≤◌, min, Bool, true, false, not, eqb, ltb, ◌⊎◌, List, length, Some, None, Option, sym, refl, ap, ◌∙◌, inl, inr, arith, MatchOption}
+use Rattle.std.proofs.Common.{◌≡◌, ℕ, zero, suc, ◌+◌, ◌*◌, ◌<◌, ◌≤◌, min, Bool, true, false, not, eqb, ltb, ◌⊎◌, List, length, Some, None, Option, sym, refl, ◌∙◌, inl, inr, arith, MatchOption}
 use Rattle.std.specs.Option.{option_or}
 use Rattle.std.specs.Bool.{then_some}
 use Rattle.std.proofs.lemmas.Nat.{mul-le}
@@ -7,7 +7,7 @@ use Rattle.std.proofs.lemmas.Bool.{lt-ltb, le-ltb, ltb-false, ne_eqb, eq-eqb, eq
 use Rattle.design.specs.declared.refusal.Refusal.{Refusal}
 use Rattle.design.specs.declared.refusal.Refusal.TheVariants.{RoomLength, Pins, Cells, NetTracks, NotYet}
 use Rattle.design.specs.declared.counts.Counts.{Counts}
-use Rattle.design.specs.Designs.{Design, total, output_width, output_cells, register_cells, cells, input_bits, output_bits, plain_cells, plain_tracks}
+use Rattle.design.specs.Designs.{Design, total, output_width, output_cells, input_bits, output_bits, plain_cells, plain_tracks}
 use Rattle.design.specs.Numbers.{nodes_of, design_in, reading_refusal, soundness_refusal}
 use Rattle.design.specs.Encodings.{Counted}
 use Rattle.fabric.specs.declared.grid.Grid.{Grid}

@@ -1,6 +1,6 @@
 -- What `put` plans and writes.
 -- Only proofs use these definitions: no promise to a user names them.
-use Rattle.std.specs.Prelude.{◌≡◌, ℕ, ◌+◌, ◌-◌, ◌*◌, ◌<◌, ◌≤◌, Bool, true, false, cond, List, length, Some, None, Option, ◌==◌, nat_lt, slice_index}
+use Rattle.std.specs.Prelude.{◌≡◌, ℕ, ◌+◌, ◌-◌, ◌*◌, ◌<◌, ◌≤◌, cond, List, Option, ◌==◌, nat_lt, slice_index}
 use Rattle.std.specs.Option.{option_or}
 use Rattle.design.specs.declared.refusal.Refusal.{Refusal}
 use Rattle.design.specs.Designs.{word, Design, input_bits, output_bits}
@@ -8,7 +8,7 @@ use Rattle.design.specs.Numbers.{design_in}
 use Rattle.fabric.specs.declared.parts.Side.{Side}
 use Rattle.fabric.specs.declared.parts.Side.TheVariants.{Left, Above}
 use Rattle.fabric.specs.declared.parts.Pin.{Pin}
-use Rattle.fabric.specs.Fabrics.{Size, cell_count}
+use Rattle.fabric.specs.Fabrics.{Size}
 use Rattle.fabric.specs.Numbers.{side_number, source_of, per_cell, PinAt}
 use Rattle.fabric.specs.Code.{size_of}
 use Rattle.netlist.specs.declared.parts.Cell.{Cell as CellT}

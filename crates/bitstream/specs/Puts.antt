@@ -1,6 +1,6 @@
 -- What `put` answers and leaves behind, as a function of the numbers that it is lent.
 -- A reader has to believe these definitions. They assume nothing.
-use Rattle.std.specs.Prelude.{◌≡◌, ℕ, ◌+◌, ◌*◌, ◌<◌, ◌≤◌, min, Bool, true, false, not, ◌⊎◌, List, length, Option, MatchOption, ◌==◌, nat_lt, slice_index}
+use Rattle.std.specs.Prelude.{◌≡◌, ℕ, ◌+◌, ◌*◌, ◌<◌, ◌≤◌, min, not, ◌⊎◌, List, length, Option, MatchOption, ◌==◌, nat_lt, slice_index}
 use Rattle.std.specs.Option.{option_or}
 use Rattle.std.specs.Bool.{then_some}
 use Rattle.design.specs.declared.refusal.Refusal.{Refusal}

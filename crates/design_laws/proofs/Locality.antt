@@ -6,13 +6,13 @@ use Rattle.design.specs.Designs.{Word, Words, Expr, input, register, constant, a
 use Rattle.design_laws.specs.Laws.{Alike, AlikeAll}
 
 -- alike in the bits below w
-abbrev Below : ℕ → Word → Word → Type 0
+abbrev pub Below : ℕ → Word → Word → Type 0
 Below w a b = (k : ℕ) → k < w → a k ≡ b k
 
 less_of : (w : ℕ) (a b : Word) → Below (suc w) a b → Below w a b
 less_of w a b h k l = h k (omega arith)
 
-carry_alike : (k : ℕ) (a a₁ b b₁ : Word) → Below k a a₁ → Below k b b₁ → carry a b k ≡ carry a₁ b₁ k
+pub carry_alike : (k : ℕ) (a a₁ b b₁ : Word) → Below k a a₁ → Below k b b₁ → carry a b k ≡ carry a₁ b₁ k
 unfolding carry
 carry_alike zero a a₁ b b₁ p q = refl
 carry_alike (suc k) a a₁ b b₁ p q =
@@ -21,7 +21,7 @@ carry_alike (suc k) a a₁ b b₁ p q =
     let c = carry_alike k a a₁ b b₁ (less_of k a a₁ p) (less_of k b b₁ q) in
     rw (x, y, c)
 
-less_alike : (w : ℕ) (a a₁ b b₁ : Word) → Below w a a₁ → Below w b b₁ → less_below a b w ≡ less_below a₁ b₁ w
+pub less_alike : (w : ℕ) (a a₁ b b₁ : Word) → Below w a a₁ → Below w b b₁ → less_below a b w ≡ less_below a₁ b₁ w
 unfolding less_below
 less_alike zero a a₁ b b₁ p q = refl
 less_alike (suc k) a a₁ b b₁ p q =
@@ -30,7 +30,7 @@ less_alike (suc k) a a₁ b b₁ p q =
     let c = less_alike k a a₁ b b₁ (less_of k a a₁ p) (less_of k b b₁ q) in
     rw (x, y, c)
 
-equal_alike : (w : ℕ) (a a₁ b b₁ : Word) → Below w a a₁ → Below w b b₁ → equal_below a b w ≡ equal_below a₁ b₁ w
+pub equal_alike : (w : ℕ) (a a₁ b b₁ : Word) → Below w a a₁ → Below w b b₁ → equal_below a b w ≡ equal_below a₁ b₁ w
 unfolding equal_below
 equal_alike zero a a₁ b b₁ p q = refl
 equal_alike (suc k) a a₁ b b₁ p q =
@@ -39,7 +39,7 @@ equal_alike (suc k) a a₁ b b₁ p q =
     let c = equal_alike k a a₁ b b₁ (less_of k a a₁ p) (less_of k b b₁ q) in
     rw (x, y, c)
 
-sum_alike : (k : ℕ) (a a₁ b b₁ : Word) → Below (suc k) a a₁ → Below (suc k) b b₁ →
+pub sum_alike : (k : ℕ) (a a₁ b b₁ : Word) → Below (suc k) a a₁ → Below (suc k) b b₁ →
     Bool.xor (Bool.xor (a k) (b k)) (carry a b k) ≡ Bool.xor (Bool.xor (a₁ k) (b₁ k)) (carry a₁ b₁ k)
 sum_alike k a a₁ b b₁ p q =
     let x = p k (omega arith) in
@@ -47,20 +47,20 @@ sum_alike k a a₁ b b₁ p q =
     let c = carry_alike k a a₁ b b₁ (less_of k a a₁ p) (less_of k b b₁ q) in
     rw (x, y, c)
 
-cond_alike : (c c₁ x x₁ y y₁ : Bool) → c ≡ c₁ → x ≡ x₁ → y ≡ y₁ → cond c x y ≡ cond c₁ x₁ y₁
+pub cond_alike : (c c₁ x x₁ y y₁ : Bool) → c ≡ c₁ → x ≡ x₁ → y ≡ y₁ → cond c x y ≡ cond c₁ x₁ y₁
 cond_alike c c₁ x x₁ y y₁ p q r = rw (p, q, r)
 
-cond_by : (t x x₁ y y₁ : Bool) → (t ≡ true → x ≡ x₁) → (t ≡ false → y ≡ y₁) → cond t x y ≡ cond t x₁ y₁
+pub cond_by : (t x x₁ y y₁ : Bool) → (t ≡ true → x ≡ x₁) → (t ≡ false → y ≡ y₁) → cond t x y ≡ cond t x₁ y₁
 cond_by true x x₁ y y₁ p q = p refl
 cond_by false x x₁ y y₁ p q = q refl
 
 -- two operands of one width
-record Operands (d : Design) (a b : Expr) : Type 0 where
-  one : well_formed d a ≡ true
-  other : well_formed d b ≡ true
-  fit : width d a ≡ width d b
+pub record Operands (d : Design) (a b : Expr) : Type 0 where
+  pub one : well_formed d a ≡ true
+  pub other : well_formed d b ≡ true
+  pub fit : width d a ≡ width d b
 
-operands : (d : Design) (a b : Expr) → (well_formed d a && (well_formed d b && eqb (width d a) (width d b))) ≡ true → Operands d a b
+pub operands : (d : Design) (a b : Expr) → (well_formed d a && (well_formed d b && eqb (width d a) (width d b))) ≡ true → Operands d a b
 operands d a b h =
     let p = and_parts (well_formed d a) (well_formed d b && eqb (width d a) (width d b)) h in
     let q = and_parts (well_formed d b) (eqb (width d a) (width d b)) p.1 in
@@ -120,11 +120,11 @@ pub widths_suffice : (d : Design) (ins ins₁ regs regs₁ : Words) (e : Expr) �
 widths_suffice d ins ins₁ regs regs₁ e ok i r = same_bits d ins ins₁ regs regs₁ i r e ok
 
 -- a register's next word is well-formed and has the register's width
-record Next (d : Design) (r : ℕ) : Type 0 where
-  formed : well_formed d (d.next r) ≡ true
-  fit : width d (d.next r) ≡ d.register_width r
+pub record Next (d : Design) (r : ℕ) : Type 0 where
+  pub formed : well_formed d (d.next r) ≡ true
+  pub fit : width d (d.next r) ≡ d.register_width r
 
-next_of : (d : Design) → Sound d → (r : ℕ) → r < d.registers → Next d r
+pub next_of : (d : Design) → Sound d → (r : ℕ) → r < d.registers → Next d r
 unfolding register_sound
 next_of d s r l =
     let p = and_parts (Rattle.design.specs.Designs.width_ok (d.register_width r)) (well_formed d (d.next r) && eqb (width d (d.next r)) (d.register_width r)) (s.registers r l) in

@@ -1,6 +1,5 @@
 -- The operation of a node on the words of earlier nodes gives the bits of its expression.
 use Rattle.std.proofs.Common.{◌≡◌, ℕ, true, ◌&&◌, ltb, List, get_or, sym, refl, ap, ◌∙◌, subst, arith}
-use mathlib.Core.Bool
 use Rattle.std.proofs.lemmas.Bool.{ltb-true, and_parts}
 use Rattle.design.specs.declared.node.Node.{Node}
 use Rattle.design.specs.declared.node.Node.TheVariants.{Input, Register, Constant, And, Or, Xor, Not, Add, Less, Equal, Mux, Slice, Concat}

@@ -9,7 +9,7 @@ abbrev above : ℕ → Pin
 above t = record { cell = 0; side = Above; track = t }
 
 pub returns-then-m-inputs : goal.returns-then-m-inputs
-returns-then-m-inputs c = c.input-pin.ensures ∙ pin_in c.args.plan.now c.args.m c.if-m-inputs.true
+returns-then-m-inputs c = c.input_pin.ensures ∙ pin_in c.args.plan.now c.args.m c.if-m-inputs.true
 
 pub returns-else-m-inputs : goal.returns-else-m-inputs
 returns-else-m-inputs c =
@@ -19,4 +19,4 @@ returns-else-m-inputs c =
     let l : i + (m - i) < p.pins = omega (arith, c.requires.there, c.if-m-inputs.false) in
     let x = c.requires.exist (m - i) l in
     let e : c.output.result ≡ get_or p.netlist.outputs (m - i) 0 = c.output.ensures.within x.0 in
-    c.output-pin.ensures.is (omega (arith, e, x.1)) ∙ ap (λ (k : ℕ). above (i + k)) e ∙ pin_out p m c.if-m-inputs.false
+    c.output_pin.ensures.is (omega (arith, e, x.1)) ∙ ap (λ (k : ℕ). above (i + k)) e ∙ pin_out p m c.if-m-inputs.false

@@ -19,7 +19,7 @@ loop-k-preserved c = λ sound.
     let k = c.loop-k.k in
     let l : k < d.registers = omega (arith, registers_in (list_of c.args.design)) in
     let register = c.register-register in
-    lists_push k _ _ _ c.joined.result (c.loop-k.invariant sound) (pushed (c.joined.result ∷ []) refl c.in-ok-push.was c.push.ensures.items)
+    lists_push k _ _ _ c.joined.result (c.loop-k.invariant sound) (pushed (c.joined.result ∷ []) refl c.in_ok-push.was c.push.ensures.items)
     (first_word d sound k register.result.width c.min.result register.result.initial c.joined.result l
     register.ensures.width c.min.ensures register.ensures.initial c.joined.ensures)
 
@@ -28,5 +28,5 @@ returns c = λ sound.
     let e : c.loop-k.k ≡ (design_of c.args.design).registers = omega (arith, registers_in (list_of c.args.design)) in
     lists_end c.loop-k.k (design_of c.args.design).registers _ _ e (c.loop-k.invariant sound)
 
-pub returns-in-err-push : goal.returns-in-err-push
-returns-in-err-push c = no_memory _ c.from-residual.result c.from-residual.ensures.1
+pub returns-in_err-push : goal.returns-in_err-push
+returns-in_err-push c = no_memory _ c.from_residual.result c.from_residual.ensures.1

@@ -14,15 +14,15 @@ pub loop-inputs-preserved : goal.loop-inputs-preserved
 loop-inputs-preserved c =
     let before = c.loop-inputs.self in
     let after = c.tick.new.self in
-    let outs = c.in-ok-tick.field-0 in
-    let ticked = c.in-ok-tick.ensures in
-    let P : Design → Type 0 = λ d. soundness_refusal d ≡ None → Ticks d c.as-slice.result.now (held before) (held after) (vec_items outs) in
+    let outs = c.in_ok-tick.field-0 in
+    let ticked = c.in_ok-tick.ensures in
+    let P : Design → Type 0 = λ d. soundness_refusal d ≡ None → Ticks d c.as_slice.result.now (held before) (held after) (vec_items outs) in
     let same : played after ≡ played before = ticked.same in (
       same ∙ c.loop-inputs.invariant.0,
       λ none h. playing_more vec_items (played c.args.self.now) c.args.stream.now c.loop-inputs.inputs-index c.inputs-item.result
-          c.as-slice.result.now (held before) (held after) outs (vec_items c.loop-inputs.shown) (vec_items c.push.new.self)
-          c.loop-inputs-test.true c.inputs-item.is c.as-slice.ensures.value
-          (subst P c.loop-inputs.invariant.0 ticked.cases none) c.in-ok-push.ensures.items (c.loop-inputs.invariant.1 none h),
+          c.as_slice.result.now (held before) (held after) outs (vec_items c.loop-inputs.shown) (vec_items c.push.new.self)
+          c.loop-inputs-test.true c.inputs-item.is c.as_slice.ensures.value
+          (subst P c.loop-inputs.invariant.0 ticked.cases none) c.in_ok-push.ensures.items (c.loop-inputs.invariant.1 none h),
     )
 
 pub returns : goal.returns
@@ -30,8 +30,8 @@ returns c = λ none h.
     let e : c.loop-inputs.inputs-index ≡ length c.args.stream.now = omega arith in
     playing_end _ _ _ _ _ _ e (c.loop-inputs.invariant.1 none h)
 
-pub returns-in-err-tick : goal.returns-in-err-tick
-returns-in-err-tick c = handed_on _ c.from-residual.result c.in-err-tick.field-0.0 c.from-residual.ensures.1 c.in-err-tick.ensures.cases.0
+pub returns-in_err-tick : goal.returns-in_err-tick
+returns-in_err-tick c = handed_on _ c.from_residual.result c.in_err-tick.field-0.0 c.from_residual.ensures.1 c.in_err-tick.ensures.cases.0
 
-pub returns-in-err-push : goal.returns-in-err-push
-returns-in-err-push c = no_memory _ c.from-residual-in-err-push.result c.from-residual-in-err-push.ensures.1
+pub returns-in_err-push : goal.returns-in_err-push
+returns-in_err-push c = no_memory _ c.from_residual-in_err-push.result c.from_residual-in_err-push.ensures.1

@@ -15,10 +15,10 @@ returns c =
     let table = c.table-known.result in
     let T : List ℕ → Type 0 = λ held. Tabled xs c.args.inputs.now held table in
     let N : List ℕ → Type 0 = λ next. Taken (design_of design).registers (register_node xs) table next in
-    let long = with_items_is words c.advance.new.words (c.advance.auto.words ∙ c.as-mut-slice.ensures.len) in
+    let long = with_items_is words c.advance.new.words (c.advance.auto.words ∙ c.as_mut_slice.ensures.len) in
     record {
       same = refl;
       cases = λ none regs h.
-          ticks xs c.args.inputs.now (vec_items words) table (not_refused xs design.readable) none (subst T c.as-slice.ensures.value c.table-known.ensures)
-          _ _ (subst N (sym long) (c.advance.ensures (ap length c.as-mut-slice.ensures.value ∙ h.long))) c.in-ok-shown.ensures regs h;
+          ticks xs c.args.inputs.now (vec_items words) table (not_refused xs design.readable) none (subst T c.as_slice.ensures.value c.table-known.ensures)
+          _ _ (subst N (sym long) (c.advance.ensures (ap length c.as_mut_slice.ensures.value ∙ h.long))) c.in_ok-shown.ensures regs h;
     }
