@@ -1,5 +1,5 @@
 -- A number is below a divisor exactly where the quotient is 0.
-use Rattle.std.proofs.Common.{◌≡◌, ℕ, ◌*◌, ◌/◌, ◌<◌, ◌≤◌, div-lt_iff_lt-mul, arith}
+use Rattle.std.proofs.Common.{◌≡◌, ℕ, ◌*◌, ◌/◌, ◌<◌, div-lt_iff_lt-mul, arith}
 use native.Mathlib.Nat.{div-eq_of_lt}
 
 pub below : (n p : ℕ) → 0 < p → n / p ≡ 0 → n < p

@@ -1,4 +1,4 @@
-use Rattle.std.proofs.Common.{◌≡◌, ◌/◌, ◌^◌, ◌<◌, ◌≤◌, arith, pow_pos, pow_mono}
+use Rattle.std.proofs.Common.{◌^◌, arith, pow_pos, pow_mono}
 use Rattle.std.proofs.lemmas.Bool.Decides.{nat_tests}
 use Rattle.stream.proofs.Quotients.{below, quotient_of_less}
 use Rattle.stream.proofs.streams.fits.Goals as goal
