@@ -134,7 +134,7 @@ mod tests {
         };
         for expected in [[1, 2], [2, 1], [1, 2]] {
             match player.tick(&[]) {
-                Ok(shown) => assert_eq!(rt; shown.as_slice(), &expected),
+                Ok(shown) => assert_eq!(rt; shown.as_slice(), expected.as_slice()),
                 Err(_) => return Err(Fail::new("no memory")),
             }
         }

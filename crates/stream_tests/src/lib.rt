@@ -195,7 +195,10 @@ cell 0 right 2 from own ";
             0, 9, 0, 0, 0, 10, 8, 2, 2, 11, 1, 2, 0, 12, 0, 1, 0,
         ];
         let widths = output_widths(heap, Encoded::new(&design))?;
-        assert_eq!(rt; widths.as_slice(), &[3, 2, 5, 3, 2, 5, 3, 2, 1, 1, 5, 2, 5]);
+        assert_eq!(rt;
+            widths.as_slice(),
+            [3, 2, 5, 3, 2, 5, 3, 2, 1, 1, 5, 2, 5].as_slice()
+        );
         Ok(())
     }
 }

@@ -1,6 +1,6 @@
 -- A worked example: an "and" of two inputs of one bit each.
 -- A reader has to believe these definitions. They assume nothing.
-use Rattle.std.specs.Prelude.{◌≡◌, ℕ, Bool, true, false, cond, List, [], ◌∷◌, None, ◌==◌}
+use Rattle.std.specs.Prelude.{◌≡◌, ℕ, true, false, cond, List, [], ◌∷◌, None, ◌==◌}
 use Rattle.design.specs.Designs.{word, Words, Design, output_at, plain_cells, plain_tracks}
 use Rattle.design.specs.Numbers.{design_in, reading_refusal, soundness_refusal}
 

@@ -27,17 +27,20 @@ fn answer(rt: &impl Abort, case: &Case, room: &mut [u16], pins: &mut [u16]) -> (
     ))
 }
 
-fn answers(rt: &impl Abort, case: &Case) -> Result<(), Fail> {
+fn answers(rt: &impl Abort, k: usize, case: &Case) {
     let mut room: [u16; 100] = sevens();
     let mut pins: [u16; 20] = sevens();
-    assert_eq!(rt; answer(rt, case, &mut room, &mut pins), case.turned);
-    assert!(rt; all_sevens(&room) && all_sevens(&pins));
-    Ok(())
+    assert_eq!(rt;
+        answer(rt, case, &mut room, &mut pins),
+        case.turned,
+        "case {k}"
+    );
+    assert!(rt; all_sevens(&room) && all_sevens(&pins), "case {k}");
 }
 
 fn all_answer(rt: &impl Abort, cases: &[Case]) -> Result<(), Fail> {
     for k in 0..cases.len() {
-        answers(rt, &cases[k]).note(format_args!("case {k}"))?;
+        answers(rt, k, &cases[k]);
     }
     Ok(())
 }

@@ -46,26 +46,35 @@ fn hold_first(held: &mut [u8], room: &[u16], tracks: usize) {
 }
 
 // Puts the input bits on the pads of their pins.
-fn drive(rt: &impl Abort, pads: &mut [u8], pins: &[u16], tracks: usize, ins: &[u8]) {
+fn drive(rt: &impl Abort, k: usize, pads: &mut [u8], pins: &[u16], tracks: usize, ins: &[u8]) {
     for n in 0..ins.len() {
         let place = pin_place(pins, n, tracks);
-        assert!(rt; place < pads.len());
+        assert!(rt; place < pads.len(), "tick {k}");
         pads[place] = ins[n];
     }
 }
 
 // Whether the output bits, whose pins come after those of so many inputs, are as expected.
-fn shown(rt: &impl Abort, levels: &[u8], pins: &[u16], inputs: usize, tracks: usize, outs: &[u8]) {
+fn shown(
+    rt: &impl Abort,
+    k: usize,
+    levels: &[u8],
+    pins: &[u16],
+    inputs: usize,
+    tracks: usize,
+    outs: &[u8],
+) {
     for n in 0..outs.len() {
         let place = pin_place(pins, inputs.saturating_add(n), tracks);
-        assert!(rt; place < levels.len());
-        assert_eq!(rt; levels[place], outs[n]);
+        assert!(rt; place < levels.len(), "tick {k}");
+        assert_eq!(rt; levels[place], outs[n], "tick {k}");
     }
 }
 
 // A tick over pads, which carry the same level but for the inputs', and levels of the fabric's length.
 fn step_over(
     rt: &impl Abort,
+    k: usize,
     tracks: usize,
     room: &[u16],
     pins: &[u16],
@@ -74,7 +83,7 @@ fn step_over(
     pads: &mut [u8],
     levels: &mut [u8],
 ) {
-    drive(rt, pads, pins, tracks, t.ins);
+    drive(rt, k, pads, pins, tracks, t.ins);
     assert_eq!(rt;
         ticked(tick(
             held.len() as u64,
@@ -85,26 +94,29 @@ fn step_over(
             pads,
             levels
         )),
-        (0, 0)
+        (0, 0),
+        "tick {k}"
     );
-    shown(rt, levels, pins, t.ins.len(), tracks, t.outs);
+    shown(rt, k, levels, pins, t.ins.len(), tracks, t.outs);
 }
 
 fn step(
     rt: &impl Abort,
+    k: usize,
     tracks: usize,
     room: &[u16],
     pins: &[u16],
     held: &mut [u8],
     t: &Tick,
     stray: u8,
-) -> Result<(), Fail> {
+) {
     let length = tracks.saturating_mul(4).saturating_mul(held.len());
-    assert!(rt; length <= 320);
+    assert!(rt; length <= 320, "tick {k}");
     let mut pads: [u8; 320] = levels(stray);
     let mut carried: [u8; 320] = levels(7);
     step_over(
         rt,
+        k,
         tracks,
         room,
         pins,
@@ -113,7 +125,6 @@ fn step(
         &mut pads[0..length],
         &mut carried[0..length],
     );
-    Ok(())
 }
 
 // Puts a design on a fabric of one row, and plays it. All pads but the inputs' carry `stray`.
@@ -133,7 +144,7 @@ fn play_over(
     );
     hold_first(held, room, tracks);
     for k in 0..ticks.len() {
-        step(rt, tracks, room, &pins, held, &ticks[k], stray).note(format_args!("tick {k}"))?;
+        step(rt, k, tracks, room, &pins, held, &ticks[k], stray);
     }
     Ok(())
 }
