@@ -1,0 +1,28 @@
+use Rattle.std.proofs.Common.{◌≡◌, ℕ, ◌+◌, ◌-◌, ◌<◌, get_or, ap, ◌∙◌, arith}
+use Rattle.fabric.specs.declared.parts.Side.TheVariants.{Above}
+use Rattle.fabric.specs.declared.parts.Pin.{Pin}
+use Rattle.bitstream_wide.proofs.Pins.{pin_in, pin_out}
+use Rattle.bitstream_wide.proofs.pinning.pin_of.Goals as goal
+
+-- the pin of a track at the upper edge
+abbrev above : ℕ → Pin
+above t = record { cell = 0; side = Above; track = t }
+
+pub returns-then-m-inputs : goal.returns-then-m-inputs
+returns-then-m-inputs c = c.input_pin.ensures ∙ pin_in c.args.plan.now c.args.m c.if-m-inputs.true
+
+pub output_cell-requires : goal.output_cell-requires
+output_cell-requires c =
+    let i = c.args.plan.now.routing.inputs in
+    let l : i + (c.args.m - i) < c.args.plan.now.pins = omega (arith, c.requires.there, c.if-m-inputs.false) in
+    (c.requires.exist (c.args.m - i) l).0
+
+pub returns-else-m-inputs : goal.returns-else-m-inputs
+returns-else-m-inputs c =
+    let p = c.args.plan.now in
+    let i = c.args.plan.now.routing.inputs in
+    let m = c.args.m in
+    let l : i + (m - i) < p.pins = omega (arith, c.requires.there, c.if-m-inputs.false) in
+    let x = c.requires.exist (m - i) l in
+    let e : c.output_cell.result ≡ get_or p.netlist.outputs (m - i) 0 = c.output_cell.ensures in
+    c.output_pin.ensures.is (omega (arith, e, x.1)) ∙ ap (λ (k : ℕ). above (i + k)) e ∙ pin_out p m c.if-m-inputs.false

@@ -1,0 +1,12 @@
+pub mod Totals
+pub mod Gates
+pub mod Growing
+pub mod Steps
+pub mod Widths
+pub mod Roots
+pub mod Finished
+pub mod General
+pub mod Working
+pub mod Nodes
+pub mod Laying
+pub mod Whole
