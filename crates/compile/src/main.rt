@@ -2,6 +2,7 @@
 #![tactic(auto)]
 
 use listing::numbers::decimal_or_most;
+use std::process::ExitCode;
 use stream::commands::compile;
 use stream::files::{Failed, argument, arguments, fail, load, print, say};
 
@@ -59,7 +60,15 @@ fn run(rt: &HostRuntime, words: &[String]) -> Result<(), Failed> {
     fail(rt, USAGE)
 }
 
-fn main(rt: HostRuntime) -> Result<(), Failed> {
-    let words = arguments(&rt)?;
-    run(&rt, words.as_slice())
+fn answer(rt: &HostRuntime) -> Result<(), Failed> {
+    let words = arguments(rt)?;
+    run(rt, words.as_slice())
+}
+
+// Where it fails it has said why, so all that is left is the status.
+fn main(rt: HostRuntime) -> ExitCode {
+    match answer(&rt) {
+        Ok(()) => ExitCode::SUCCESS,
+        Err(Failed) => ExitCode::FAILURE,
+    }
 }

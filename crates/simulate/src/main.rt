@@ -1,6 +1,7 @@
 // Plays a stream on a listing, and prints what is shown tick by tick.
 #![tactic(auto)]
 
+use std::process::ExitCode;
 use stream::commands::simulate;
 use stream::files::{Failed, argument, arguments, fail, load, print, say};
 
@@ -44,7 +45,15 @@ fn run(rt: &HostRuntime, words: &[String]) -> Result<(), Failed> {
     )
 }
 
-fn main(rt: HostRuntime) -> Result<(), Failed> {
-    let words = arguments(&rt)?;
-    run(&rt, words.as_slice())
+fn answer(rt: &HostRuntime) -> Result<(), Failed> {
+    let words = arguments(rt)?;
+    run(rt, words.as_slice())
+}
+
+// Where it fails it has said why, so all that is left is the status.
+fn main(rt: HostRuntime) -> ExitCode {
+    match answer(&rt) {
+        Ok(()) => ExitCode::SUCCESS,
+        Err(Failed) => ExitCode::FAILURE,
+    }
 }
