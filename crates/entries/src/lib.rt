@@ -1,0 +1,7 @@
+// What the lines of a listing say.
+#![tactic(auto)]
+
+pub mod entry;
+pub mod fields;
+pub mod keywords;
+pub mod lines;

@@ -1,0 +1,49 @@
+// What a program can turn away.
+use design::refusal::Refusal;
+use listings::parts::Port;
+
+// A fabric, and the numbers of the design that is to be put on it; none where the fabric is played.
+#[derive(Clone, Copy)]
+pub struct Asked<'a> {
+    pub rows: u64,
+    pub columns: u64,
+    pub tracks: u64,
+    pub numbers: &'a [u64],
+}
+
+// Lines are counted from 0.
+#[derive(Clone, Copy)]
+pub enum Trouble<'a> {
+    // a design, a listing or a stream with bytes that are no text
+    Bytes {
+        of: &'a str,
+        line: u64,
+    },
+    // a line of a design in numbers that can't be read
+    Numbers {
+        line: u64,
+        text: &'a str,
+    },
+    // a line of a listing that can't be read: it isn't formed as it should be, or else it can't stand there
+    Listing {
+        line: u64,
+        text: &'a str,
+        formed: bool,
+    },
+    // a line of a stream for these inputs that can't be read
+    Stream {
+        line: u64,
+        text: &'a str,
+        inputs: &'a [Port],
+    },
+    // a fabric of a size that there isn't, as the first line of a listing says it
+    Size {
+        refusal: Refusal,
+        text: &'a str,
+    },
+    // a design that can't be put on a fabric, or a fabric that can't be played
+    Design {
+        refusal: Refusal,
+        asked: Asked<'a>,
+    },
+}

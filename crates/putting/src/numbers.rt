@@ -1,0 +1,52 @@
+// The numbers of a text.
+ghost use Rattle.std.specs.Prelude.{length, IfErr};
+ghost use Rattle.putting.specs.Refusing.{AtLine, SomeLine, Unreadable};
+
+use crate::unput::Unput;
+use design::refusal::Refusal;
+use std::alloc::Global;
+use words::cutting::lines;
+use words::numbers::decimal_or_most;
+
+// The number that a word writes goes after those before.
+fn add_word(numbers: &mut Vec<u64>, word: &str, line: usize) -> Result<(), Unput>
+    ensures { IfErr result (λ u. AtLine line u) }
+{
+    let Some(n) = decimal_or_most(word) else {
+        return Err(Unput::Turned(Refusal::Text { line: line as u64 }));
+    };
+    match numbers.push(n) {
+        Ok(()) => Ok(()),
+        Err(_) => Err(Unput::Memory),
+    }
+}
+
+// The numbers of a line go after those before.
+fn add_line(numbers: &mut Vec<u64>, text: &str, line: usize) -> Result<(), Unput>
+    ensures { IfErr result (λ u. AtLine line u) }
+{
+    for word in text.split_whitespace() {
+        add_word(numbers, word, line)?;
+    }
+    Ok(())
+}
+
+fn all_numbers(heap: Global, lines: &[&str]) -> Result<Vec<u64>, Unput>
+    ensures { IfErr result (λ u. SomeLine (length lines.now) u) }
+{
+    let mut numbers = Vec::new(heap);
+    for (line, text) in lines.iter().enumerate() {
+        add_line(&mut numbers, *text, line)?;
+    }
+    Ok(numbers)
+}
+
+// The decimal numbers of a text, separated by white space; one above 64 bits counts as the largest of 64 bits.
+pub fn numbers(heap: Global, text: &str) -> Result<Vec<u64>, Unput>
+    ensures { IfErr result (λ u. Unreadable text.now u) }
+{
+    match lines(heap, text) {
+        Ok(lines) => all_numbers(heap, lines.as_slice()),
+        Err(_) => Err(Unput::Memory),
+    }
+}

@@ -1,0 +1,7 @@
+// The reading of listings.
+#![tactic(auto)]
+
+pub mod filling;
+pub mod lines;
+pub mod seats;
+pub mod unread;
