@@ -42,10 +42,8 @@ impl<'a> TryFrom<&'a [u16]> for Encoded<'a> {
         (λ refusal. reading_refusal numbers.now ≡ Some refusal) };
 
     fn try_from(numbers: &'a [u16]) -> Result<Encoded<'a>, Refusal> {
-        match faults::fault(numbers) {
-            Some(refusal) => Err(refusal),
-            None => Ok(Encoded { numbers }),
-        }
+        faults::check(numbers)?;
+        Ok(Encoded { numbers })
     }
 }
 

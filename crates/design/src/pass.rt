@@ -18,8 +18,7 @@ const BLANK: Summary = Summary {
 pub(crate) fn at(known: &[Summary], n: u16) -> Summary
     ensures { (z : Summary) → n < length known.now → result ≡ slice_index_or known.now n z }
 {
-    let n = n as usize;
-    if n < known.len() { known[n] } else { BLANK }
+    known.get(n as usize).copied().unwrap_or(BLANK)
 }
 
 fn summarize(design: Encoded<'_>, known: &[Summary], node: Node) -> Summary
