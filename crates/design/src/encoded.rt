@@ -15,7 +15,7 @@ pub struct Encoded<'a> {
 }
 
 // A register: its width, the number that it begins with, and the node that it becomes at the end of a tick.
-#[derive(Clone, Copy)]
+#[derive(Clone, Copy, PartialEq, Eq, Debug)]
 pub struct Register {
     pub width: u16,
     pub initial: u16,
