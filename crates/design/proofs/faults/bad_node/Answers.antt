@@ -1,7 +1,7 @@
 use borrow.Author.Tests.{tests}
-use Rattle.std.proofs.Common.{◌≡◌, ℕ, true, false, rules}
+use Rattle.std.proofs.Common.{◌≡◌, true, false, rules}
 use Rattle.std.proofs.lemmas.Iterator.{first_from_Range}
-use Rattle.design.specs.Numbers.{nodes_of, node_ok}
+use Rattle.design.specs.Numbers.{node_ok}
 use Rattle.design.proofs.First.{first_from_find}
 use Rattle.design.proofs.faults.bad_node.Goals as goal
 

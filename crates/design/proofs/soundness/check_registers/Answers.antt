@@ -23,7 +23,7 @@ loop-k-preserved c =
     )
 
 pub returns-in_err-ok_or : goal.returns-in_err-ok_or
-returns-in_err-ok_or c = 
+returns-in_err-ok_or c =
     let xs = list_of c.args.analysis.now.design in
     let d = design_of c.args.analysis.now.design in
     let k = c.loop-k.k in
