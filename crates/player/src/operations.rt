@@ -27,7 +27,7 @@ pub(crate) fn low_bits(n: u64, width: u32) -> u64
     joined(width, |k| bit(n, k))
 }
 
-// The sum of two words, cut at a width.
+// The sum of two words, cut at a width. The carry goes from bit to bit, so this is a loop of its own: a closure that changes what it captures is no plainer.
 pub(crate) fn sum(a: u64, b: u64, width: u32) -> u64
     requires { width ≤ 64 }
     ensures { result ≡ number width (sum_word (word a) (word b)) }
