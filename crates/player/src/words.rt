@@ -48,10 +48,8 @@ pub(crate) fn shown(heap: Global, design: Encoded<'_>, table: &[u64]) -> Result<
         (λ words. Taken (design_of design.entry).outputs (output_node (list_of design.entry)) table.now words.items)
         (λ fault. fault ≡ Memory) }
 {
-    let mut words = Vec::new(heap);
-    let outputs = design.outputs();
-    for k in 0..outputs {
-        words.push(at(table, design.output(k)))?;
-    }
+    let words = (0..design.outputs())
+        .map(|k| at(table, design.output(k)))
+        .collect(heap)?;
     Ok(words)
 }
