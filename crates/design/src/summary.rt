@@ -47,6 +47,7 @@ pub(crate) fn width_ok(width: u16) -> bool
     1 <= width && width <= 64
 }
 
+// Each operation states its width, its form and its cells for itself: a name for clauses that are alike would hide what it is.
 impl Summary {
     pub(crate) fn constant(width: u16) -> Summary
         ensures width { result.width ≡ width }

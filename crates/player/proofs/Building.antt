@@ -1,14 +1,11 @@
 -- Words built bit by bit.
-use Rattle.std.proofs.Common.{◌≡◌, ℕ, ◌+◌, ◌*◌, ◌/◌, ◌%◌, ◌^◌, ◌<◌, ◌≤◌, Bool, true, false, ◌&&◌, ◌||◌, eqb, sym, refl, subst, add-one, arith, pow_mono}
+use Rattle.std.proofs.Common.{◌≡◌, ℕ, ◌+◌, ◌*◌, ◌/◌, ◌%◌, ◌^◌, ◌<◌, ◌≤◌, Bool, true, false, ◌&&◌, ◌||◌, eqb, refl, add-one, arith, pow_mono}
 use mathlib.Core.Bool
 use mathlib.Core.Bool.{beq}
 use native.Mathlib.Nat.{div-eq_of_lt}
 use Rattle.std.proofs.lemmas.Nat.{one_shl}
 use Rattle.std.proofs.lemmas.Bool.{ne_eqb}
 use Rattle.design.specs.Designs.{Word, number, word, carry, less_below, equal_below, single}
-use Rattle.player.specs.declared.operations.Operation.{Operation}
-use Rattle.player.specs.declared.operations.Operation.TheVariants.{Same, And, Or, Xor, Not, Add, Less, Equal, Mux, Slice, Concat}
-use Rattle.player.specs.Operations.{operation_bit, operation_carry}
 use Rattle.design_laws.proofs.Arithmetic.{number_below}
 
 -- a number of 64 bits has no others
@@ -30,6 +27,13 @@ one_more k n x a h t e f = rw (add-one, e, ← f, t, one_shl k 64 h) (omega arit
 pub zero_more : (k n : ℕ) (x : Bool) (a : Word) → x ≡ false → n ≡ number k a → x ≡ a k → n ≡ number (k + 1) a
 unfolding number
 zero_more k n x a t e f = rw (add-one, e, ← f, t) (omega arith)
+
+-- either is still small
+pub one_below : (k n : ℕ) → k < 64 → n < 2 ^ k → n + (1 * 2 ^ k) % 2 ^ 64 < 2 ^ (k + 1)
+one_below k n h small = rw (add-one, one_shl k 64 h) (omega arith)
+
+pub zero_below : (k n : ℕ) → n < 2 ^ k → n < 2 ^ (k + 1)
+zero_below k n small = rw add-one (omega arith)
 
 -- the code's exclusive or
 pub xor_is : (x y : Bool) → Bool.not (beq x y) ≡ Bool.xor x y
@@ -66,19 +70,9 @@ pub built_none : (a : Word) → 0 ≡ number 0 a
 unfolding number
 built_none a = refl
 
-pub carry_none : (o : Operation) → false ≡ operation_carry o 0
+pub carry_none : (a b : Word) → false ≡ carry a b 0
 unfolding carry
-carry_none (Same a) = refl
-carry_none (And a b) = refl
-carry_none (Or a b) = refl
-carry_none (Xor a b) = refl
-carry_none (Not a) = refl
-carry_none (Add a b) = refl
-carry_none (Less a b w) = refl
-carry_none (Equal a b w) = refl
-carry_none (Mux c a b) = refl
-carry_none (Slice l a) = refl
-carry_none (Concat a b w) = refl
+carry_none a b = refl
 
 pub less_none : (a b : Word) → false ≡ less_below a b 0
 unfolding less_below
@@ -87,14 +81,6 @@ less_none a b = refl
 pub equal_none : (a b : Word) → true ≡ equal_below a b 0
 unfolding equal_below
 equal_none a b = refl
-
--- an operation by what it is
-pub bit_of : (o is : Operation) (k : ℕ) (c r : Bool) → o ≡ is → (c ≡ operation_carry is k → r ≡ operation_bit is k) → c ≡ operation_carry o k → r ≡ operation_bit o k
-bit_of o is k c r e h = let P : Operation → Type 0 = λ x. c ≡ operation_carry x k → r ≡ operation_bit x k in subst P (sym e) h
-
-pub carry_of : (o is : Operation) (k : ℕ) (c r : Bool) → o ≡ is → (c ≡ operation_carry is k → r ≡ operation_carry is (k + 1)) →
-    c ≡ operation_carry o k → r ≡ operation_carry o (k + 1)
-carry_of o is k c r e h = let P : Operation → Type 0 = λ x. c ≡ operation_carry x k → r ≡ operation_carry x (k + 1) in subst P (sym e) h
 
 -- a word of width 1
 pub single_here : (k : ℕ) (x y : Bool) → k ≡ 0 → x ≡ y → x ≡ single y k

@@ -1,7 +1,9 @@
 -- Lists of numbers that grow at their end.
-use Rattle.std.proofs.Common.{◌≡◌, ℕ, ◌+◌, ◌<◌, ◌≢◌, List, [], ◌∷◌, ◌++◌, length, get_or, set, ◌∙◌, inl, inr, arith}
+use Rattle.std.proofs.Common.{◌≡◌, ℕ, ◌+◌, ◌<◌, ◌≢◌, List, [], ◌∷◌, ◌++◌, map, length, get_or, set, ◌∙◌, inl, inr, arith}
 use Rattle.std.proofs.lemmas.Bool.{cases_eq}
 use Rattle.std.proofs.lemmas.List.{length_push, get_or_push, get_or_append_left, length-set, get_or-set_same, get_or-set_other}
+use Rattle.std.proofs.lemmas.List.FromFn.{length-map-range_with_len, get_or-map-range_with_len}
+use Rattle.std.specs.List.{range_with_len}
 use Rattle.player.specs.Plays.{Lists}
 
 pub lists_none : (at : ℕ → ℕ) (xs : List ℕ) → xs ≡ [] → Lists 0 at xs
@@ -16,6 +18,13 @@ lists_push n at xs ys x all e is =
         | inr other ↦ get_or_append_left xs (x ∷ []) 0 k (omega (arith, all.long)) ∙ all.right k (omega arith)
       ];
     })
+
+-- numbers that are made from their places
+pub lists_map : (n : ℕ) (at : ℕ → ℕ) (xs : List ℕ) → xs ≡ map at (range_with_len 0 n) → Lists n at xs
+lists_map n at xs e = rw e (record {
+  long = length-map-range_with_len at 0 n;
+  right = λ k l. get_or-map-range_with_len at 0 n k k 0 l (omega arith);
+})
 
 pub lists_end : (k n : ℕ) (at : ℕ → ℕ) (xs : List ℕ) → k ≡ n → Lists k at xs → Lists n at xs
 lists_end k n at xs e h = rw e at h

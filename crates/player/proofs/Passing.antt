@@ -3,15 +3,14 @@ use Rattle.std.proofs.Common.{◌≡◌, ℕ, ◌+◌, ◌<◌, ◌≤◌, min, 
 use Rattle.std.proofs.lemmas.Bool.{and_parts, ltb-true, leb-true, cases_eq}
 use Rattle.std.proofs.lemmas.List.{get_or-set_same, get_or-set_other}
 use Rattle.design.specs.declared.node.Node.{Node}
-use Rattle.design.specs.Designs.{Expr, input, register, constant, and, or, xor, not, add, less, equal, mux, slice, concat, Design, Sound, width, well_formed, width_ok, register_sound, input_sound, number, eval}
-use Rattle.design.specs.Numbers.{nodes_of, node_in, names_below, design_in, reading_refusal}
+use Rattle.design.specs.Designs.{Word, Expr, input, register, constant, and, or, xor, not, add, less, equal, mux, slice, concat, Design, Sound, width, well_formed, width_ok, register_sound, input_sound, number, eval}
+use Rattle.design.specs.Numbers.{nodes_of, node_in, names_below, node_expr, design_in, reading_refusal}
 use Rattle.design.proofs.Exprs.{expr_at_node}
 use Rattle.design_laws.proofs.Arithmetic.{same_number}
 use Rattle.design_laws.proofs.Locality.{operands}
-use Rattle.player.specs.declared.operations.Operation.{Operation}
-use Rattle.player.specs.Operations.{operation_bit}
 use Rattle.player.specs.Plays.{words_in}
-use Rattle.player.specs.Tables.{Evaluates, node_expr, Known, Wide, Fetches, Evaluated}
+use Rattle.player.specs.Tables.{Evaluates, Known, Wide, Fetches, Evaluated}
+use Rattle.player.proofs.Fetching.{at_node}
 
 -- in a sound design no width is above 64
 fits : (w : ℕ) → width_ok w ≡ true → w ≤ 64
@@ -55,18 +54,18 @@ pub width_cut : (xs : List ℕ) (n v w : ℕ) → (n < nodes_of xs → well_form
 width_cut xs n v w wide least l sound ok = cut v w (width (design_in xs) (node_expr xs n)) least (wide l ok) (width_fits (design_in xs) sound (node_expr xs n) ok)
 
 -- a node's word is its expression's
-pub node_word : (xs inputs registers known : List ℕ) (n w r : ℕ) (node : Node) (o : Operation) → reading_refusal xs ≡ None →
+pub node_word : (xs inputs registers known : List ℕ) (n w r : ℕ) (node is : Node) (o : Word) → reading_refusal xs ≡ None →
     (n < nodes_of xs → node_in xs n ≡ Some node) → (n < nodes_of xs → names_below n node ≡ true) → Wide xs n w →
-    Fetches xs inputs registers known node o → r ≡ number w (operation_bit o) → Evaluated xs inputs registers known n r
-node_word xs inputs registers known n w r node o readable named below wide fetched done l sound all ok =
+    node ≡ is → Fetches xs inputs registers known is o → r ≡ number w o → Evaluated xs inputs registers known n r
+node_word xs inputs registers known n w r node is' o readable named below wide same fetched done l sound all ok =
     let d = design_in xs in
     let e = node_expr xs n in
     let is = expr_at_node xs readable n l node (named l) in
-    let P : Expr → Type 0 = λ x. well_formed d x ≡ true → (k : ℕ) → k < width d x → operation_bit o k ≡ eval d (words_in inputs) (words_in registers) x k in
+    let P : Expr → Type 0 = λ x. well_formed d x ≡ true → (k : ℕ) → k < width d x → o k ≡ eval d (words_in inputs) (words_in registers) x k in
     done
-    ∙ ap (λ (m : ℕ). number m (operation_bit o)) (wide l sound ok)
-    ∙ same_number (width d e) (operation_bit o) (eval d (words_in inputs) (words_in registers) e)
-    (subst P (sym is) (fetched n (omega arith) (below l) sound all) ok)
+    ∙ ap (λ (m : ℕ). number m o) (wide l sound ok)
+    ∙ same_number (width d e) o (eval d (words_in inputs) (words_in registers) e)
+    (subst P (sym is) (at_node xs inputs registers known node is' o same fetched n (omega arith) (below l) sound all) ok)
 
 pub known_more : (xs inputs registers known : List ℕ) (n r : ℕ) → n < length known → Known xs inputs registers n known →
     Evaluates (design_in xs) (words_in inputs) (words_in registers) (node_expr xs n) r → Known xs inputs registers (n + 1) (set known n r)

@@ -2,16 +2,14 @@
 use Rattle.std.proofs.Common.{◌≡◌, ℕ, ◌<◌, ◌≤◌, min, true, List, get_or, None, refl, ap, ◌∙◌}
 use Rattle.std.proofs.lemmas.Bool.{lt-ltb}
 use Rattle.design.specs.Designs.{Word, Words, register, Design, Sound, width, well_formed, number, word, eval, output_width, output_sound}
-use Rattle.design.specs.Numbers.{nodes_of, register_node, output_node, design_in, reading_refusal, soundness_refusal}
+use Rattle.design.specs.Numbers.{nodes_of, register_node, output_node, node_expr, design_in, reading_refusal, soundness_refusal}
 use Rattle.design.proofs.Reading.{readable}
 use Rattle.design.proofs.Sound.{sound_from_none}
 use Rattle.design_laws.specs.Laws.{Alike}
 use Rattle.design_laws.proofs.Arithmetic.{same_number, word_of_number}
 use Rattle.design_laws.proofs.Locality.{next_of, widths_suffice}
-use Rattle.player.specs.declared.operations.Operation.TheVariants.{Same}
-use Rattle.player.specs.Operations.{operation_bit}
 use Rattle.player.specs.Plays.{words_in, Holds, Shows, Ticks}
-use Rattle.player.specs.Tables.{node_expr, Tabled, Taken}
+use Rattle.player.specs.Tables.{Tabled, Taken}
 use Rattle.player.proofs.Passing.{width_fits, cut}
 
 -- a register of a sound design has a width of at most 64
@@ -21,7 +19,7 @@ register_fits d s r l = width_fits d s (register r) (lt-ltb r d.registers l)
 
 -- the word that a register begins with
 pub first_word : (d : Design) → Sound d → (r v m i x : ℕ) → r < d.registers → v ≡ d.register_width r → m ≡ min v 64 → word i ≡ d.initial r →
-    x ≡ number m (operation_bit (Same i)) → x ≡ number (d.register_width r) (d.initial r)
+    x ≡ number m (word i) → x ≡ number (d.register_width r) (d.initial r)
 first_word d s r v m i x l e f g is =
     is
     ∙ ap (λ (n : ℕ). number n (word i)) (cut v m (d.register_width r) f e (register_fits d s r l))

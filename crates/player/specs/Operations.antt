@@ -1,32 +1,36 @@
--- The bits that an operation gives, and the carries into them. Only proofs and the contracts of inner functions use this.
+-- The words that operations give. Only proofs and the contracts of inner functions use this.
 use Rattle.std.proofs.Math.Bool
-use Rattle.std.specs.Prelude.{ℕ, ◌+◌, ◌-◌, Bool, false, cond, ◌&&◌, ◌||◌, nat_lt}
-use Rattle.design.specs.Designs.{Word, word, carry, less_below, equal_below, single}
-use Rattle.player.specs.declared.operations.Operation.{Operation}
-use Rattle.player.specs.declared.operations.Operation.TheVariants.{Same, And, Or, Xor, Not, Add, Less, Equal, Mux, Slice, Concat}
+use Rattle.std.specs.Prelude.{ℕ, ◌+◌, ◌-◌, cond, ◌&&◌, ◌||◌, nat_lt}
+use Rattle.design.specs.Designs.{Word, carry, less_below, equal_below, single}
 
-abbrev pub operation_bit : Operation → Word
-operation_bit (Same a) k = word a k
-operation_bit (And a b) k = word a k && word b k
-operation_bit (Or a b) k = word a k || word b k
-operation_bit (Xor a b) k = Bool.xor (word a k) (word b k)
-operation_bit (Not a) k = Bool.not (word a k)
-operation_bit (Add a b) k = Bool.xor (Bool.xor (word a k) (word b k)) (carry (word a) (word b) k)
-operation_bit (Less a b w) k = single (less_below (word a) (word b) w) k
-operation_bit (Equal a b w) k = single (equal_below (word a) (word b) w) k
-operation_bit (Mux c a b) k = cond (word c 0) (word a k) (word b k)
-operation_bit (Slice l a) k = word a (l + k)
-operation_bit (Concat a b w) k = cond (nat_lt k w) (word b k) (word a (k - w))
+abbrev pub and_word : Word → Word → Word
+and_word a b k = a k && b k
 
-abbrev pub operation_carry : Operation → ℕ → Bool
-operation_carry (Same a) k = false
-operation_carry (And a b) k = false
-operation_carry (Or a b) k = false
-operation_carry (Xor a b) k = false
-operation_carry (Not a) k = false
-operation_carry (Add a b) k = carry (word a) (word b) k
-operation_carry (Less a b w) k = false
-operation_carry (Equal a b w) k = false
-operation_carry (Mux c a b) k = false
-operation_carry (Slice l a) k = false
-operation_carry (Concat a b w) k = false
+abbrev pub or_word : Word → Word → Word
+or_word a b k = a k || b k
+
+abbrev pub xor_word : Word → Word → Word
+xor_word a b k = Bool.xor (a k) (b k)
+
+abbrev pub sum_word : Word → Word → Word
+sum_word a b k = Bool.xor (Bool.xor (a k) (b k)) (carry a b k)
+
+abbrev pub not_word : Word → Word
+not_word a k = Bool.not (a k)
+
+-- of words of a width
+abbrev pub less_word : Word → Word → ℕ → Word
+less_word a b w = single (less_below a b w)
+
+abbrev pub equal_word : Word → Word → ℕ → Word
+equal_word a b w = single (equal_below a b w)
+
+abbrev pub mux_word : (choice one zero : Word) → Word
+mux_word c a b k = cond (c 0) (a k) (b k)
+
+abbrev pub slice_word : ℕ → Word → Word
+slice_word l a k = a (l + k)
+
+-- the bits of the second, as many as the width says, and above them those of the first
+abbrev pub concat_word : Word → Word → ℕ → Word
+concat_word a b w k = cond (nat_lt k w) (b k) (a (k - w))

@@ -13,7 +13,8 @@ pub(crate) fn bit(n: u64, k: u32) -> bool
 pub(crate) fn with_bit(n: u64, k: u32, top: bool) -> u64
     requires small { n < 2 ^ k }
     requires room { k < 64 }
-    ensures { (a : Word) → n ≡ number k a → top ≡ a k → result ≡ number (k + 1) a }
+    ensures word { (a : Word) → n ≡ number k a → top ≡ a k → result ≡ number (k + 1) a }
+    ensures still_small { result < 2 ^ (k + 1) }
 {
     if top { n + (1 << k) } else { n }
 }

@@ -10,7 +10,7 @@ pub(crate) struct Comparison {
     pub(crate) equal: bool,
 }
 
-// From the low bit up: the highest bits that differ decide.
+// From the low bit up: the highest bits that differ decide. A `fold` would carry the same two flags and be no plainer.
 pub(crate) fn compare(a: u64, b: u64, width: u32) -> Comparison
     ensures less { result.less ≡ less_below (word a) (word b) width }
     ensures equal { result.equal ≡ equal_below (word a) (word b) width }

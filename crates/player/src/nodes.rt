@@ -1,9 +1,9 @@
 // The words of a design's nodes in one tick: one pass over the nodes, in their order.
 ghost use Rattle.std.specs.Prelude.{◌≡◌, ◌≤◌, slice_index};
 ghost use Rattle.design.specs.Encodings.{list_of};
-ghost use Rattle.player.specs.Tables.{Wide, Fetches, Evaluated, Tabled};
+ghost use Rattle.player.specs.Tables.{Wide, Evaluated, Tabled};
 
-use crate::operations::{Operation, joined};
+use crate::operations::{and, concat, equal, less, low_bits, mux, not, or, slice, sum, xor};
 use design::analysis::Analysis;
 use design::node::Node;
 
@@ -11,12 +11,7 @@ use design::node::Node;
 pub(crate) fn at(numbers: &[u64], place: u16) -> u64
     ensures { result ≡ slice_index numbers.now place }
 {
-    let place = place as usize;
-    if place < numbers.len() {
-        numbers[place]
-    } else {
-        0
-    }
+    numbers.get(place as usize).copied().unwrap_or(0)
 }
 
 // The width of a node that is well-formed; at most 64, whatever the node is.
@@ -27,53 +22,7 @@ fn width(analysis: &Analysis<'_>, n: u16) -> u32
     analysis.width(n).min(64) as u32
 }
 
-// The operation of a node on the words of the nodes that it names.
-fn fetch(
-    analysis: &Analysis<'_>,
-    inputs: &[u64],
-    registers: &[u64],
-    known: &[u64],
-    node: Node,
-) -> Operation
-    ensures { Fetches (list_of analysis.now.design) inputs.now registers.now known.now node result }
-{
-    match node {
-        Node::Input(i) => Operation::Same(at(inputs, i)),
-        Node::Register(r) => Operation::Same(at(registers, r)),
-        Node::Constant { value, .. } => Operation::Same(value as u64),
-        Node::And(a, b) => Operation::And(at(known, a), at(known, b)),
-        Node::Or(a, b) => Operation::Or(at(known, a), at(known, b)),
-        Node::Xor(a, b) => Operation::Xor(at(known, a), at(known, b)),
-        Node::Not(a) => Operation::Not(at(known, a)),
-        Node::Add(a, b) => Operation::Add(at(known, a), at(known, b)),
-        Node::Less(a, b) => Operation::Less {
-            a: at(known, a),
-            b: at(known, b),
-            width: width(analysis, a),
-        },
-        Node::Equal(a, b) => Operation::Equal {
-            a: at(known, a),
-            b: at(known, b),
-            width: width(analysis, a),
-        },
-        Node::Mux { choice, one, zero } => Operation::Mux {
-            choice: at(known, choice),
-            one: at(known, one),
-            zero: at(known, zero),
-        },
-        Node::Slice { low, of, .. } => Operation::Slice {
-            low,
-            of: at(known, of),
-        },
-        Node::Concat { high, low } => Operation::Concat {
-            high: at(known, high),
-            low: at(known, low),
-            width: width(analysis, low),
-        },
-    }
-}
-
-// The word of node n.
+// The word of node n, from the words of the nodes that it names.
 fn evaluate(
     analysis: &Analysis<'_>,
     inputs: &[u64],
@@ -83,19 +32,39 @@ fn evaluate(
 ) -> u64
     ensures { Evaluated (list_of analysis.now.design) inputs.now registers.now known.now n result }
 {
-    let operation = fetch(analysis, inputs, registers, known, analysis.design.node(n));
-    joined(operation, width(analysis, n))
-}
-
-fn blank<const N: usize>() -> [u64; N] {
-    [0; N]
+    let bits = width(analysis, n);
+    match analysis.design.node(n) {
+        Node::Input(i) => low_bits(at(inputs, i), bits),
+        Node::Register(r) => low_bits(at(registers, r), bits),
+        Node::Constant { value, .. } => low_bits(value as u64, bits),
+        Node::And(a, b) => and(at(known, a), at(known, b), bits),
+        Node::Or(a, b) => or(at(known, a), at(known, b), bits),
+        Node::Xor(a, b) => xor(at(known, a), at(known, b), bits),
+        Node::Not(a) => not(at(known, a), bits),
+        Node::Add(a, b) => sum(at(known, a), at(known, b), bits),
+        Node::Less(a, b) => less(at(known, a), at(known, b), width(analysis, a), bits),
+        Node::Equal(a, b) => equal(at(known, a), at(known, b), width(analysis, a), bits),
+        Node::Mux { choice, one, zero } => mux(
+            at(known, choice),
+            at(known, one),
+            at(known, zero),
+            bits,
+        ),
+        Node::Slice { low, of, .. } => slice(low, at(known, of), bits),
+        Node::Concat { high, low } => concat(
+            at(known, high),
+            at(known, low),
+            width(analysis, low),
+            bits,
+        ),
+    }
 }
 
 // The words of all nodes.
 pub(crate) fn table(analysis: &Analysis<'_>, inputs: &[u64], registers: &[u64]) -> [u64; 1024]
     ensures { Tabled (list_of analysis.now.design) inputs.now registers.now result }
 {
-    let mut known: [u64; 1024] = blank();
+    let mut known = [0; 1024];
     let nodes = analysis.design.nodes();
     for n in 0..nodes {
         known[n as usize] = evaluate(analysis, inputs, registers, &known, n);

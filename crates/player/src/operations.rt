@@ -1,80 +1,119 @@
-// Operations on words, bit by bit.
-ghost use Rattle.std.specs.Prelude.{◌≡◌, ◌+◌, ◌<◌, ◌≤◌};
-ghost use Rattle.design.specs.Designs.{number};
-ghost use Rattle.player.specs.Operations.{operation_bit, operation_carry};
+// Words built of their bits, from the low one up.
+ghost use Rattle.std.specs.Prelude.{◌≡◌, ℕ, ◌+◌, ◌<◌, ◌≤◌, Bool};
+ghost use Rattle.design.specs.Designs.{Word, number, word};
+ghost use Rattle.player.specs.Operations.{and_word, or_word, xor_word, not_word, sum_word, less_word, equal_word, mux_word, slice_word, concat_word};
 
 use crate::bits::{bit, with_bit};
 use crate::comparing::compare;
 
-// How each bit of a word comes from bits of others.
-#[derive(Clone, Copy)]
-pub(crate) enum Operation {
-    Same(u64),
-    And(u64, u64),
-    Or(u64, u64),
-    Xor(u64, u64),
-    Not(u64),
-    Add(u64, u64),
-    // of words of a width
-    Less { a: u64, b: u64, width: u32 },
-    Equal { a: u64, b: u64, width: u32 },
-    Mux { choice: u64, one: u64, zero: u64 },
-    // the bits from `low` on
-    Slice { low: u16, of: u64 },
-    // the bits of `low`, as many as its width says, and above them those of `high`
-    Concat { high: u64, low: u64, width: u32 },
+// The word of the bits below a width.
+pub(crate) fn joined<F: Fn(u32) -> bool>(width: u32, bit_at: F) -> u64
+    requires narrow { width ≤ 64 }
+    requires callable { (k : ℕ) → k < width → F.pre bit_at k }
+    ensures { (a : Word) → ((k : ℕ) (b : Bool) → k < width → F.post bit_at k b → b ≡ a k) → result ≡ number width a }
+{
+    let mut n = 0;
+    for k in 0..width {
+        n = with_bit(n, k, bit_at(k));
+    }
+    n
 }
 
-impl Operation {
-    // Bit k, with the carry into it.
-    fn bit(self, k: u32, carry: bool) -> bool
-        requires { k < 64 }
-        ensures { carry ≡ operation_carry self k → result ≡ operation_bit self k }
-    {
-        match self {
-            Operation::Same(a) => bit(a, k),
-            Operation::And(a, b) => bit(a, k) & bit(b, k),
-            Operation::Or(a, b) => bit(a, k) | bit(b, k),
-            Operation::Xor(a, b) => bit(a, k) ^ bit(b, k),
-            Operation::Not(a) => !bit(a, k),
-            Operation::Add(a, b) => bit(a, k) ^ bit(b, k) ^ carry,
-            Operation::Less { a, b, width } => k == 0 && compare(a, b, width).less,
-            Operation::Equal { a, b, width } => k == 0 && compare(a, b, width).equal,
-            Operation::Mux { choice, one, zero } => bit(if bit(choice, 0) { one } else { zero }, k),
-            Operation::Slice { low, of } => bit(of, low as u32 + k),
-            Operation::Concat { high, low, width } => if k < width {
-                bit(low, k)
-            } else {
-                bit(high, k - width)
-            },
-        }
-    }
-
-    // The carry out of bit k; only a sum has one.
-    fn carry(self, k: u32, carry: bool) -> bool
-        ensures { carry ≡ operation_carry self k → result ≡ operation_carry self (k + 1) }
-    {
-        match self {
-            Operation::Add(a, b) => {
-                let x = bit(a, k);
-                let y = bit(b, k);
-                x & y | carry & (x ^ y)
-            }
-            _ => false,
-        }
-    }
-}
-
-// The word of the bits below a width, from the low bit up.
-pub(crate) fn joined(operation: Operation, width: u32) -> u64
+// The bits of a number below a width.
+pub(crate) fn low_bits(n: u64, width: u32) -> u64
     requires { width ≤ 64 }
-    ensures { result ≡ number width (operation_bit operation) }
+    ensures { result ≡ number width (word n) }
+{
+    joined(width, |k| bit(n, k))
+}
+
+// The sum of two words, cut at a width. The carry goes from bit to bit, so this is a loop of its own: a closure that changes what it captures is no plainer.
+pub(crate) fn sum(a: u64, b: u64, width: u32) -> u64
+    requires { width ≤ 64 }
+    ensures { result ≡ number width (sum_word (word a) (word b)) }
 {
     let mut n = 0;
     let mut carry = false;
     for k in 0..width {
-        n = with_bit(n, k, operation.bit(k, carry));
-        carry = operation.carry(k, carry);
+        let x = bit(a, k);
+        let y = bit(b, k);
+        n = with_bit(n, k, x ^ y ^ carry);
+        carry = x & y | carry & (x ^ y);
     }
     n
+}
+
+pub(crate) fn and(a: u64, b: u64, width: u32) -> u64
+    requires { width ≤ 64 }
+    ensures { result ≡ number width (and_word (word a) (word b)) }
+{
+    joined(width, |k| bit(a, k) & bit(b, k))
+}
+
+pub(crate) fn or(a: u64, b: u64, width: u32) -> u64
+    requires { width ≤ 64 }
+    ensures { result ≡ number width (or_word (word a) (word b)) }
+{
+    joined(width, |k| bit(a, k) | bit(b, k))
+}
+
+pub(crate) fn xor(a: u64, b: u64, width: u32) -> u64
+    requires { width ≤ 64 }
+    ensures { result ≡ number width (xor_word (word a) (word b)) }
+{
+    joined(width, |k| bit(a, k) ^ bit(b, k))
+}
+
+pub(crate) fn not(a: u64, width: u32) -> u64
+    requires { width ≤ 64 }
+    ensures { result ≡ number width (not_word (word a)) }
+{
+    joined(width, |k| !bit(a, k))
+}
+
+// Whether one word of some width is less than, or equal to, another.
+pub(crate) fn less(a: u64, b: u64, of: u32, width: u32) -> u64
+    requires { width ≤ 64 }
+    ensures { result ≡ number width (less_word (word a) (word b) of) }
+{
+    let less = compare(a, b, of).less;
+    joined(width, |k| k == 0 && less)
+}
+
+pub(crate) fn equal(a: u64, b: u64, of: u32, width: u32) -> u64
+    requires { width ≤ 64 }
+    ensures { result ≡ number width (equal_word (word a) (word b) of) }
+{
+    let equal = compare(a, b, of).equal;
+    joined(width, |k| k == 0 && equal)
+}
+
+pub(crate) fn mux(choice: u64, one: u64, zero: u64, width: u32) -> u64
+    requires { width ≤ 64 }
+    ensures { result ≡ number width (mux_word (word choice) (word one) (word zero)) }
+{
+    low_bits(if bit(choice, 0) { one } else { zero }, width)
+}
+
+// The bits from `low` on.
+pub(crate) fn slice(low: u16, of: u64, width: u32) -> u64
+    requires { width ≤ 64 }
+    ensures { result ≡ number width (slice_word low (word of)) }
+{
+    joined(width, |k| bit(of, low as u32 + k))
+}
+
+// The bits of `low`, as many as its width says, and above them those of `high`.
+pub(crate) fn concat(high: u64, low: u64, of: u32, width: u32) -> u64
+    requires { width ≤ 64 }
+    ensures { result ≡ number width (concat_word (word high) (word low) of) }
+{
+    joined(
+        width,
+        |k| if k < of {
+            bit(low, k)
+        } else {
+            bit(high, k - of)
+        },
+    )
 }

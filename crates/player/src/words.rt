@@ -9,7 +9,7 @@ ghost use Rattle.player.specs.Tables.{Taken};
 
 use crate::fault::Fault;
 use crate::nodes::at;
-use crate::operations::{Operation, joined};
+use crate::operations::low_bits;
 use design::encoded::Encoded;
 use std::alloc::Global;
 
@@ -23,10 +23,7 @@ pub(crate) fn initial(heap: Global, design: Encoded<'_>) -> Result<Vec<u64>, Fau
     let registers = design.registers();
     for k in 0..registers {
         let register = design.register(k);
-        words.push(joined(
-            Operation::Same(register.initial as u64),
-            register.width.min(64) as u32,
-        ))?;
+        words.push(low_bits(register.initial as u64, register.width.min(64) as u32))?;
     }
     Ok(words)
 }
@@ -51,10 +48,8 @@ pub(crate) fn shown(heap: Global, design: Encoded<'_>, table: &[u64]) -> Result<
         (λ words. Taken (design_of design.entry).outputs (output_node (list_of design.entry)) table.now words.items)
         (λ fault. fault ≡ Memory) }
 {
-    let mut words = Vec::new(heap);
-    let outputs = design.outputs();
-    for k in 0..outputs {
-        words.push(at(table, design.output(k)))?;
-    }
+    let words = (0..design.outputs())
+        .map(|k| at(table, design.output(k)))
+        .collect(heap)?;
     Ok(words)
 }

@@ -1,7 +1,7 @@
-use Rattle.std.proofs.Common.{◌≡◌}
-use Rattle.design.specs.Designs.{number}
-use Rattle.player.specs.Operations.{operation_bit, operation_carry}
+use Rattle.std.proofs.Common.{◌≡◌, ℕ, Bool, ◌<◌, ◌^◌}
+use Rattle.design.specs.Designs.{Word, number}
 use Rattle.player.proofs.operations.joined.Given as goal
 
 abbrev pub invariant-loop-k : goal.invariant-loop-k
-invariant-loop-k l = (l.n ≡ number l.k (operation_bit l.operation)) × (l.carry ≡ operation_carry l.operation l.k)
+invariant-loop-k g l = (l.n < 2 ^ l.k)
+    × ((a : Word) → ((j : ℕ) (b : Bool) → j < l.k → goal.F-post g l.bit_at j b → b ≡ a j) → l.n ≡ number l.k a)

@@ -10,8 +10,8 @@ use Rattle.player.proofs.words.initial.Goals as goal
 pub loop-k-init : goal.loop-k-init
 loop-k-init c = λ sound. lists_none _ _ c.new-words.ensures.items
 
-pub joined-requires : goal.joined-requires
-joined-requires c = omega (arith, c.min.ensures)
+pub low_bits-requires : goal.low_bits-requires
+low_bits-requires c = omega (arith, c.min.ensures)
 
 pub loop-k-preserved : goal.loop-k-preserved
 loop-k-preserved c = λ sound.
@@ -19,9 +19,9 @@ loop-k-preserved c = λ sound.
     let k = c.loop-k.k in
     let l : k < d.registers = omega (arith, registers_in (list_of c.args.design)) in
     let register = c.register-register in
-    lists_push k _ _ _ c.joined.result (c.loop-k.invariant sound) (pushed (c.joined.result ∷ []) refl c.in_ok-push.was c.push.ensures.items)
-    (first_word d sound k register.result.width c.min.result register.result.initial c.joined.result l
-    register.ensures.width c.min.ensures register.ensures.initial c.joined.ensures)
+    lists_push k _ _ _ c.low_bits.result (c.loop-k.invariant sound) (pushed (c.low_bits.result ∷ []) refl c.in_ok-push.was c.push.ensures.items)
+    (first_word d sound k register.result.width c.min.result register.result.initial c.low_bits.result l
+    register.ensures.width c.min.ensures register.ensures.initial c.low_bits.ensures)
 
 pub returns : goal.returns
 returns c = λ sound.

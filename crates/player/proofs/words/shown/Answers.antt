@@ -1,23 +1,24 @@
-use Rattle.std.proofs.Common.{◌≡◌, ℕ, [], ◌∷◌, get_or, refl, ap, ◌∙◌, arith}
-use Rattle.std.proofs.lemmas.Slice.{pushed}
+use Rattle.std.proofs.Common.{◌≡◌, ℕ, Ok, get_or, map, sym, ◌∙◌, arith, rules, IfOk, vec_items}
+use Rattle.std.proofs.lemmas.Iterator.{YieldsList-from_range, YieldsList-from_map, items_from_collect}
+use Rattle.std.specs.List.{range_with_len}
+use Rattle.design.specs.Numbers.{output_node}
 use Rattle.design.specs.Encodings.{list_of, design_of}
 use Rattle.design.proofs.Sound.{outputs_in}
-use Rattle.player.proofs.Listing.{lists_none, lists_push, lists_end}
+use Rattle.player.proofs.Listing.{lists_map, lists_end}
 use Rattle.player.proofs.Failing.{no_memory}
 use Rattle.player.proofs.words.shown.Goals as goal
 
-pub loop-k-init : goal.loop-k-init
-loop-k-init c = lists_none _ _ c.new-words.ensures.items
-
-pub loop-k-preserved : goal.loop-k-preserved
-loop-k-preserved c =
-    lists_push c.loop-k.k _ _ _ c.at.result c.loop-k.invariant (pushed (c.at.result ∷ []) refl c.in_ok-push.was c.push.ensures.items)
-    (c.at.ensures ∙ ap (λ (n : ℕ). get_or c.args.table.now n 0) c.output.ensures.node)
-
 pub returns : goal.returns
 returns c =
-    let e : c.loop-k.k ≡ (design_of c.args.design).outputs = omega (arith, outputs_in (list_of c.args.design)) in
-    lists_end c.loop-k.k (design_of c.args.design).outputs _ _ e c.loop-k.invariant
+    let xs = list_of c.args.design in
+    let at : ℕ → ℕ = λ k. get_or c.args.table.now (output_node xs k) 0 in
+    let n = c.outputs.result in
+    let count : n ≡ (design_of c.args.design).outputs = c.outputs.ensures ∙ sym (outputs_in xs) in
+    let all : IfOk c.collect.result (λ words. vec_items words ≡ map at (range_with_len 0 n)) =
+    items_from_collect c.collect.result c.collect.ensures.ran
+    (YieldsList-from_map _ at (YieldsList-from_range 0 n n c.map.ensures.source (omega arith)) c.map.ensures.closure (λ x r q k. search rules)) in
+    let was : c.collect.result ≡ Ok c.in_ok-words.words = c.in_ok-words.was in
+    lists_end n (design_of c.args.design).outputs at _ count (lists_map n at _ (rw was at all))
 
-pub returns-in_err-push : goal.returns-in_err-push
-returns-in_err-push c = no_memory _ c.from_residual.result c.from_residual.ensures.1
+pub returns-in_err-words : goal.returns-in_err-words
+returns-in_err-words c = no_memory _ c.from_residual.result c.from_residual.ensures.1
