@@ -113,7 +113,7 @@ impl Grid {
         ensures is { result ≡ track_place (size_of self) cell side track }
         ensures inside { result < signal_count (size_of self) }
     {
-        cell * (1 + 4 * self.tracks) + (1 + (side.number() as usize * self.tracks + track))
+        cell * (1 + 4 * self.tracks) + (1 + (u16::from(side) as usize * self.tracks + track))
     }
 
     // Where a pad stands among all.
@@ -123,6 +123,6 @@ impl Grid {
         ensures is { result ≡ pad_place (size_of self) cell side track }
         ensures inside { result < pads_length (size_of self) }
     {
-        (cell * 4 + side.number() as usize) * self.tracks + track
+        (cell * 4 + u16::from(side) as usize) * self.tracks + track
     }
 }

@@ -6,10 +6,9 @@ use bitstream::{Made, put};
 use design::encoded::Encoded;
 use design::refusal::Refusal;
 use fabric::grid::Grid;
-use fabric::parts::Pin;
+use fabric::parts::{Pin, Side};
 use listing::fault::Fault;
 use listing::parts::{Listing, Port};
-use listing::sides::side_at;
 use std::alloc::Global;
 
 // The most pins that are made room for: more than any fabric has.
@@ -68,7 +67,7 @@ fn pin(pins: &[u16], bit: usize) -> Pin {
     let side = number(pins, at.saturating_add(1));
     Pin {
         cell: number(pins, at),
-        side: side_at(side as usize),
+        side: Side::at(side as usize),
         track: number(pins, at.saturating_add(2)),
     }
 }
