@@ -6,15 +6,21 @@ ghost use Rattle.fabric.specs.Code.{size_of, per_signal, signal_count, track_pla
 
 use crate::grid::Grid;
 use crate::parts::Side;
+use crate::size::Size;
 use design::refusal::Refusal;
 
-impl Grid {
-    // The grid of that size, or why there is none.
-    pub fn new(columns: u64, rows: u64, tracks: u64) -> Result<Grid, Refusal>
-        ensures { MatchResult result
-            (λ g. (size_refusal (record { columns = columns; rows = rows; tracks = tracks }) ≡ None) × (size_of g ≡ record { columns = columns; rows = rows; tracks = tracks }))
-            (λ f. size_refusal (record { columns = columns; rows = rows; tracks = tracks }) ≡ Some f) }
-    {
+// The grid of that size, or why there is none.
+impl TryFrom<Size> for Grid {
+    type Error = Refusal;
+
+    ghost try_from_gives = { λ size r. MatchResult r (λ g. (size_refusal size ≡ None) × (size_of g ≡ size)) (λ f. size_refusal size ≡ Some f) };
+
+    fn try_from(size: Size) -> Result<Grid, Refusal> {
+        let Size {
+            columns,
+            rows,
+            tracks,
+        } = size;
         if rows == 0 || rows > 32 {
             return Err(Refusal::Rows);
         }
@@ -33,7 +39,9 @@ impl Grid {
             tracks: tracks as usize,
         })
     }
+}
 
+impl Grid {
     // How many cells there are.
     pub fn cells(self) -> usize
         ensures { result ≡ cell_count (size_of self) }

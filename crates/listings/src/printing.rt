@@ -118,7 +118,10 @@ fn print_holds(page: &mut Page, cell: usize, part: &[u16]) {
 // The tracks that go out of a cell on a side.
 fn print_drives(page: &mut Page, grid: Grid, cell: usize, part: &[u16], side: Side) {
     for track in 0..grid.tracks {
-        let source = Source::from(number(part, 22 + u16::from(side) as usize * grid.tracks + track));
+        let source = Source::from(number(
+            part,
+            22 + u16::from(side) as usize * grid.tracks + track,
+        ));
         if source != Source::Nothing {
             print_cell_number(page, cell);
             print_track(page, side, track as u16);

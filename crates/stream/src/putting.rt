@@ -7,6 +7,7 @@ use design::encoded::Encoded;
 use design::refusal::Refusal;
 use fabric::grid::Grid;
 use fabric::parts::{Pin, Side};
+use fabric::size::Size;
 use listing::fault::Fault;
 use listing::parts::{Listing, Port};
 use std::alloc::Global;
@@ -132,7 +133,11 @@ fn laid_out(heap: Global, grid: Grid, asked: Asked, design: &[u16]) -> Result<Li
 
 // The listing of a design on a fabric. The fabric is looked at first, then how many numbers there are, then each number.
 pub(crate) fn compiled(heap: Global, asked: Asked) -> Result<Listing, Fault> {
-    let grid = Grid::new(asked.columns, asked.rows, asked.tracks)?;
+    let grid = Grid::try_from(Size {
+        columns: asked.columns,
+        rows: asked.rows,
+        tracks: asked.tracks,
+    })?;
     let expected = expected_len(asked.numbers);
     if asked.numbers.len() as u64 != expected {
         return Err(Fault::Turned(Refusal::DesignLength { expected }));
