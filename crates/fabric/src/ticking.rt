@@ -7,8 +7,7 @@ ghost use Rattle.fabric.specs.Code.{grid_of, config_of, pads_of, FitsTick};
 
 use crate::grid::Grid;
 use crate::size::Size;
-use crate::sweeping::blank;
-use crate::wiring::Wiring;
+use crate::wiring::{Moment, Wiring};
 use design::refusal::Refusal;
 
 // The most cells and tracks that a fabric has together.
@@ -77,14 +76,15 @@ fn play(wiring: Wiring, kept: &mut [u8], outs: &mut [u8]) -> Done
     ensures { ((result ≡ Done.Ticked) × Ticks (grid_of wiring.entry) (config_of wiring.entry) kept.old wiring.entry.pads.now outs.old kept.new outs.new)
         ⊎ ((result ≡ Done.Restless) × (kept.new ≡ kept.old) × (outs.new ≡ outs.old) × (Settles (grid_of wiring.entry) (config_of wiring.entry) (held_in kept.old) (pads_of wiring.entry) → ⊥)) }
 {
-    let mut first = blank::<SIGNALS>();
-    let mut second = blank::<SIGNALS>();
+    let mut first = [false; SIGNALS];
+    let mut second = [false; SIGNALS];
     let signals = wiring.grid.signals();
     let levels = &mut first[0..signals];
     let next = &mut second[0..signals];
     if wiring.settle(kept, levels, next) {
-        wiring.write_held(levels, kept);
-        wiring.grid.write_outputs(levels, outs);
+        let moment = Moment { wiring, levels };
+        moment.write_held(kept);
+        moment.write_outputs(outs);
         Done::Ticked
     } else {
         Done::Restless
