@@ -12,8 +12,8 @@ use Rattle.fabric.specs.declared.parts.Source.{Source}
 use Rattle.fabric.specs.declared.parts.Source.TheVariants.{Nothing, Own, Track}
 use Rattle.fabric.specs.declared.wiring.Wiring.{Wiring}
 use Rattle.fabric.specs.Fabrics.{Size, cell_count, at_edge, neighbour, opposite, Pads, Signals, read, incoming, lookup, sweep}
-use Rattle.fabric.specs.Numbers.{side_number, source_of, per_cell, config_in, held_in, pads_length, pad_place, pads_in}
-use Rattle.fabric.specs.Code.{grid_of, state_of, track_place}
+use Rattle.fabric.specs.Numbers.{side_number, source_of, per_cell, config_in, held_in, pads_length}
+use Rattle.fabric.specs.Code.{grid_of}
 use Rattle.design.specs.Designs.{bit}
 use Rattle.fabric.proofs.Indices.{word_below}
 

@@ -1,8 +1,7 @@
-use Rattle.std.proofs.Common.{◌≡◌, ℕ, ◌+◌, ◌<◌, false, List, length, get_or, set, ap, ◌∙◌, arith}
-use Rattle.std.proofs.lemmas.List.Edits.{fill_by_more}
+use Rattle.std.proofs.Common.{false, get_or, ap, ◌∙◌, arith}
 use Rattle.design.specs.Designs.{bit}
 use Rattle.fabric.specs.Numbers.{pad_place}
-use Rattle.fabric.specs.Code.{grid_of, state_of, out_place}
+use Rattle.fabric.specs.Code.{grid_of, state_of}
 use Rattle.fabric.proofs.Indices.{pad_inside, out_at}
 use Rattle.fabric.proofs.wiring.Moment.write_outputs.Goals as goal
 

@@ -6,8 +6,12 @@ use Rattle.fabric.proofs.wiring.Spot.carried.Goals as goal
 
 pub bounds-self-self : goal.bounds-self-self
 bounds-self-self c =
-    omega (arith, c.args.self.moment.all, track_below (cell_count (grid_of c.args.self.moment.wiring)) c.args.self.moment.wiring.grid.tracks c.args.self.cell c.from.result c.args.track
-    c.args.self.inside c.from.ensures.1 c.requires)
+    omega (
+      arith,
+      c.args.self.moment.all,
+      track_below (cell_count (grid_of c.args.self.moment.wiring)) c.args.self.moment.wiring.grid.tracks c.args.self.cell c.from.result c.args.track
+          c.args.self.inside c.from.ensures.1 c.requires,
+    )
 
 pub returns : goal.returns
 unfolding state_of

@@ -7,8 +7,12 @@ use Rattle.fabric.proofs.wiring.Spot.pad.Goals as goal
 
 pub bounds-wiring-self : goal.bounds-wiring-self
 bounds-wiring-self c =
-    omega (arith, c.args.self.moment.wiring.pads_len, pad_below (cell_count (grid_of c.args.self.moment.wiring)) c.args.self.moment.wiring.grid.tracks c.args.self.cell c.from.result c.args.track
-    c.args.self.inside c.from.ensures.1 c.requires)
+    omega (
+      arith,
+      c.args.self.moment.wiring.pads_len,
+      pad_below (cell_count (grid_of c.args.self.moment.wiring)) c.args.self.moment.wiring.grid.tracks c.args.self.cell c.from.result c.args.track
+          c.args.self.inside c.from.ensures.1 c.requires,
+    )
 
 pub returns : goal.returns
 unfolding pads_in pad_place
