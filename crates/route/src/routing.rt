@@ -33,6 +33,7 @@ impl Plain {
     }
 
     // The side of a cell from which something that begins at another comes; none where they are the same.
+    #[tactic(auto, using(std::proofs::lemmas::Bool::Decides::nat_tests), unfolding(crate::specs::Plain::toward))]
     pub(crate) fn toward(self, cell: u16, begin: u16) -> Option<Side>
         ensures { result ≡ toward (size_of self.grid) cell begin }
     {
@@ -60,6 +61,7 @@ impl Plain {
 
     // Where a cell takes a net from; nothing, where there is no such net. An input bit begins at the left edge of the first cell, and what
     // a cell of the netlist shows where that stands, from the cell itself.
+    #[tactic(auto, unfolding(crate::specs::Plain::plain_source))]
     pub fn source(self, cell: u16, net: Net) -> Source
         ensures is { Exists self.inputs self.placement.count net → result ≡ plain_source (size_of self.grid) self.inputs cell net }
         ensures none { (Exists self.inputs self.placement.count net → ⊥) → result ≡ Nothing }
@@ -78,6 +80,7 @@ impl Plain {
     }
 
     // The net that a track carries, everywhere.
+    #[tactic(auto, using(std::proofs::lemmas::Bool::Decides::nat_tests), unfolding(crate::specs::Plain::plain_net))]
     pub fn carried(self, track: u16) -> Net
         ensures is { result ≡ plain_net self.inputs self.placement.count track }
         ensures exists { Exists self.inputs self.placement.count result }
