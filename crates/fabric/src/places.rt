@@ -96,6 +96,7 @@ impl Grid {
     }
 
     // The cell on that side, or none at an edge.
+    #[tactic(auto, using(crate::proofs::Indices::left_of_some, crate::proofs::Indices::above_some, crate::proofs::Geometry::neighbour_inside), unfolding(crate::specs::Fabrics::neighbour))]
     pub(crate) fn neighbour(self, cell: usize, side: Side) -> Option<usize>
         requires { cell < cell_count (size_of self) }
         ensures { MatchOption result (at_edge (size_of self) cell side ≡ true)

@@ -10,6 +10,7 @@ use crate::wiring::Spot;
 
 impl Spot<'_> {
     // Number k of the cell's configuration.
+    #[tactic(auto, using(crate::proofs::Readings::word_inside, crate::proofs::Readings::bits_few))]
     pub(crate) fn word(self, k: usize) -> u16
         requires { k < per_cell (grid_of self.moment.wiring) }
         ensures { let w = self.entry.moment.wiring in result ≡ slice_index w.bits.now (self.entry.cell * per_cell (grid_of w) + k) }
@@ -77,7 +78,7 @@ impl Spot<'_> {
     }
 
     // What input k of the cell gives, as a number.
-    #[tactic(auto, unfolding(crate::specs::Numbers::per_cell))]
+    #[tactic(auto, using(crate::proofs::Readings::bit_byte, crate::proofs::Readings::bit_small), unfolding(crate::specs::Numbers::per_cell, crate::specs::Numbers::config_in))]
     pub(crate) fn input(self, k: usize) -> usize
         requires { k < 4 }
         ensures is { let w = self.entry.moment.wiring in result ≡ bit (read (grid_of w) (pads_of w) (levels_of self.entry.moment) self.entry.cell ((config_of w).input self.entry.cell k)) }

@@ -9,7 +9,7 @@ use crate::wiring::{Moment, Spot, Wiring};
 
 impl Spot<'_> {
     // What the cell shows after a sweep.
-    #[tactic(auto, unfolding(crate::specs::Numbers::per_cell))]
+    #[tactic(auto, using(crate::proofs::Readings::copied_item), unfolding(crate::specs::Numbers::per_cell, crate::specs::Numbers::config_in, crate::specs::Numbers::held_in, crate::specs::Fabrics::sweep))]
     pub(crate) fn next(self, held: &[u8]) -> bool
         ensures { let w = self.entry.moment.wiring in result ≡ (sweep (grid_of w) (config_of w) (held_in held.now) (pads_of w) (levels_of self.entry.moment)).cell self.entry.cell }
     {
@@ -21,6 +21,7 @@ impl Spot<'_> {
     }
 
     // What a track that goes out of the cell carries after a sweep.
+    #[tactic(auto, unfolding(crate::specs::Numbers::per_cell, crate::specs::Numbers::config_in))]
     pub(crate) fn next_carried(self, side: Side, track: usize) -> bool
         requires { track < self.moment.wiring.grid.tracks }
         ensures { let w = self.entry.moment.wiring in result ≡ read (grid_of w) (pads_of w) (levels_of self.entry.moment) self.entry.cell ((config_of w).drive self.entry.cell side track) }
@@ -32,6 +33,7 @@ impl Spot<'_> {
 
 impl Moment<'_> {
     // What the signal at a place shows after a sweep.
+    #[tactic(auto, using(std::proofs::lemmas::Nat::div_below, std::proofs::lemmas::Nat::mod_below), unfolding(crate::specs::Code::signal_at, crate::specs::Fabrics::sweep))]
     pub(crate) fn next(self, held: &[u8], place: usize) -> bool
         requires { place < signal_count (grid_of self.wiring) }
         ensures { let w = self.entry.wiring in result ≡ signal_at (grid_of w) (sweep (grid_of w) (config_of w) (held_in held.now) (pads_of w) (levels_of self.entry)) place }
