@@ -20,7 +20,7 @@ impl Spot<'_> {
     }
 
     // What the cell shows.
-    #[tactic(auto, unfolding(crate::specs::Code::state_of))]
+    #[tactic(auto, using(crate::proofs::Indices::cell_below), unfolding(crate::specs::Code::state_of))]
     pub(crate) fn shown(self) -> bool
         ensures { result ≡ (levels_of self.entry.moment).cell self.entry.cell }
     {

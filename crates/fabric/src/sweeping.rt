@@ -52,6 +52,7 @@ impl Moment<'_> {
     }
 
     // One sweep: everything looks at once at what was before.
+    #[tactic(auto, using(crate::proofs::States::agree_from_places))]
     pub(crate) fn sweep(self, held: &[u8], next: &mut [bool])
         requires { length next.old ≡ signal_count (grid_of self.wiring) }
         ensures { let w = self.entry.wiring in Agree (grid_of w) (state_of (grid_of w) next.new) (sweep (grid_of w) (config_of w) (held_in held.now) (pads_of w) (levels_of self.entry)) }

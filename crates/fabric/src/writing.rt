@@ -36,6 +36,7 @@ impl Moment<'_> {
 
 impl Grid {
     // Where the signal of the track at a place among the pads stands.
+    #[tactic(auto, using(crate::proofs::Indices::out_below), unfolding(crate::specs::Numbers::pads_length))]
     pub(crate) fn out_place(self, place: usize) -> usize
         requires { place < pads_length (size_of self) }
         ensures is { result ≡ out_place (size_of self) place }
