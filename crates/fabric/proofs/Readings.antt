@@ -8,7 +8,7 @@ use Rattle.std.proofs.lemmas.Grind.{common_steps}
 use Rattle.std.proofs.lemmas.Bool.Decides.{nat_tests}
 use Rattle.fabric.specs.declared.wiring.Wiring.{Wiring}
 use Rattle.fabric.specs.Fabrics.{cell_count}
-use Rattle.fabric.specs.Numbers.{per_cell, pads_length}
+use Rattle.fabric.specs.Numbers.{per_cell}
 use Rattle.fabric.specs.Code.{grid_of}
 use Rattle.design.specs.Designs.{bit}
 use Rattle.fabric.proofs.Indices.{word_below}
@@ -19,10 +19,6 @@ word_inside w c k q h m e = rw (e, w.bits_len) (word_below (cell_count (grid_of 
 
 pub bits_few : (w : Wiring) → length w.bits.now ≤ 32000
 bits_few w = rw w.bits_len w.grid.fits
-
-pub pads_all : (w : Wiring) → length w.pads.now ≡ pads_length (grid_of w)
-unfolding pads_length
-pads_all w = w.pads_len
 
 pub copied_item : (xs : List ℕ) (i : ℕ) (r : Option (Bor ℕ)) → IsItemAt xs i r → unwrap_or (option_copied r) 0 ≡ get_or xs i 0
 copied_item xs i None h = grind (arith, nat_tests, common_steps)

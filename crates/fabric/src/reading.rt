@@ -87,7 +87,8 @@ impl Spot<'_> {
         usize::from(self.read(Source::from(self.word(16 + k))))
     }
 
-    // The bit of the cell's table that its inputs say.
+    // The bit of the cell's table that its inputs say. The four are read one by one, each with its weight beside it: a sum over a range
+    // would hide that, and is no shorter.
     #[tactic(auto, unfolding(crate::specs::Numbers::per_cell, crate::specs::Numbers::config_in, crate::specs::Fabrics::lookup))]
     pub(crate) fn lookup(self) -> bool
         ensures { let w = self.entry.moment.wiring in result ≡ lookup (grid_of w) (config_of w) (pads_of w) (levels_of self.entry.moment) self.entry.cell }

@@ -13,7 +13,7 @@ use design::refusal::Refusal;
 // The most cells and tracks that a fabric has together.
 const SIGNALS: usize = 32000;
 
-// What a tick answers.
+// What a tick answers. The C interface needs an enum of its own here, in place of a `Result`.
 #[derive(Clone, Copy)]
 pub enum Done {
     // the fabric settled, and the held bits and outputs are written
@@ -24,7 +24,7 @@ pub enum Done {
     Turned(Refusal),
 }
 
-// Plays one tick on a fabric of so many columns (`across`), rows (`down`) and tracks.
+// Plays one tick on a fabric of so many columns (`across`), rows (`down`) and tracks. The C interface needs the three numbers apart.
 pub fn tick(
     across: u64,
     down: u64,

@@ -15,7 +15,8 @@ use place::plain::Placement;
 use std::cmp::Ordering;
 
 impl Plain {
-    // The plain layout of so many input bits and cells, or none where there is no room for it.
+    // The plain layout of so many input bits and cells, or none where there is no room for it. An `if`, since `then_some` would build a
+    // layout for which there is no room.
     pub fn new(grid: Grid, inputs: u16, count: u16) -> Option<Plain>
         ensures { MatchOption result (Room (size_of grid) inputs count → ⊥)
             (λ p. (p.grid ≡ grid) × (p.inputs ≡ inputs) × (p.placement.count ≡ count)) }
