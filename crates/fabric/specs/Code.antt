@@ -1,5 +1,5 @@
--- How the code's values stand for a fabric's. The contract of `tick` uses nothing of this; of public contracts, only those of grids and sources
--- use `size_of` and `numbered`.
+-- How the code's values stand for a fabric's. The contract of `tick` uses nothing of this; of public contracts, only those of grids, sources and
+-- sides use `size_of`, `numbered` and `side_at`.
 use Rattle.std.specs.Prelude.{◌≡◌, ℕ, ◌+◌, ◌-◌, ◌*◌, ◌/◌, ◌%◌, Bool, false, cond, List, length, None, ◌==◌, nat_lt, slice_index_or}
 use Rattle.fabric.specs.declared.parts.Side.{Side}
 use Rattle.fabric.specs.declared.parts.Side.TheVariants.{Right, Below, Left, Above}
