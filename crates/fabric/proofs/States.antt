@@ -4,7 +4,7 @@ use Rattle.std.proofs.lemmas.List.{ext_get_or}
 use Rattle.std.proofs.lemmas.Bool.{ne_eqb, cases_eq}
 use Rattle.std.proofs.lemmas.Nat.{div-add-mod', div_below, mod_below, div-mul-add, mod-mul-add, mul-add-lt}
 use Rattle.fabric.specs.declared.parts.Side.{Side}
-use Rattle.fabric.specs.Fabrics.{Size, cell_count, Config, Signals, Pads, read, lookup, sweep, swept, dark, final, enough, Agree, Settles}
+use Rattle.fabric.specs.Fabrics.{Size, cell_count, Config, Signals, Pads, lookup, sweep, swept, dark, final, enough, Agree, Settles}
 use Rattle.fabric.specs.Numbers.{side_number}
 use Rattle.fabric.specs.Code.{per_signal, signal_count, track_place, state_of, side_at, signal_at}
 use Rattle.fabric.proofs.Geometry.{row_of, column_of}
@@ -22,14 +22,6 @@ pub signal_track : (z : Size) (g : Signals) (k q m n t : ℕ) (s : Side) → (k 
     m / z.tracks ≡ n → m % z.tracks ≡ t → side_at n ≡ s → signal_at z g k ≡ g.track q s t
 unfolding signal_at
 signal_track z g k q m n t s o e f h i j = let b = ne_eqb (k % per_signal z) 0 o in cc
-
-pub swept_track : (z : Size) (b : Config) (held : ℕ → Bool) (p : Pads) (g : Signals) (k : ℕ) (s : Side) (r : Bool) → (k % per_signal z ≡ 0 → ⊥) →
-    s ≡ side_at ((k % per_signal z - 1) / z.tracks) →
-    r ≡ read z p g (k / per_signal z) (b.drive (k / per_signal z) s ((k % per_signal z - 1) % z.tracks)) → r ≡ signal_at z (sweep z b held p g) k
-unfolding sweep
-swept_track z b held p g k s r o e h =
-    let m = k % per_signal z - 1 in
-    h ∙ sym (signal_track z (sweep z b held p g) k (k / per_signal z) m (m / z.tracks) (m % z.tracks) s o refl refl refl refl (sym e))
 
 at_track : (z : Size) (g : Signals) (c : ℕ) (s : Side) (t : ℕ) → t < z.tracks → signal_at z g (track_place z c s t) ≡ g.track c s t
 at_track z g c s t m =
