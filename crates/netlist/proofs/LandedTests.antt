@@ -35,15 +35,15 @@ some_test test n i h = rw h refl
 pub none_test : (test : ℕ → Bool) (n : ℕ) → first_failing test n ≡ None → false ≡ is_some (first_failing test n)
 none_test test n h = rw h refl
 
--- the answers of `not_yet`
-pub other_node : (xs : List ℕ) (n : ℕ) → Some n ≡ first_failing (node_landed xs) (nodes_of xs) → Some (NotYet n) ≡ lowering_refusal xs
+-- the answers of `landed`
+pub other_node : (xs : List ℕ) (n : ℕ) → Some n ≡ first_failing (node_landed xs) (nodes_of xs) → lowering_refusal xs ≡ Some (NotYet n)
 unfolding lowering_refusal
 other_node xs n h = rw (← h) refl
 
-pub wide_words : (xs : List ℕ) (n : ℕ) → None ≡ first_failing (node_landed xs) (nodes_of xs) → wide xs ≡ true → n ≡ nodes_of xs → Some (NotYet n) ≡ lowering_refusal xs
+pub wide_words : (xs : List ℕ) (n : ℕ) → None ≡ first_failing (node_landed xs) (nodes_of xs) → wide xs ≡ true → n ≡ nodes_of xs → lowering_refusal xs ≡ Some (NotYet n)
 unfolding lowering_refusal
 wide_words xs n h w e = rw (← h, w, e) refl
 
-pub all_landed : (xs : List ℕ) → None ≡ first_failing (node_landed xs) (nodes_of xs) → wide xs ≡ false → None ≡ lowering_refusal xs
+pub all_landed : (xs : List ℕ) → None ≡ first_failing (node_landed xs) (nodes_of xs) → wide xs ≡ false → lowering_refusal xs ≡ None
 unfolding lowering_refusal
 all_landed xs h w = rw (← h, w) refl

@@ -1,5 +1,5 @@
 // Which designs can be lowered: single bits, inputs, registers, and, xor.
-ghost use Rattle.std.specs.Prelude.{◌≡◌, not, is_some, Some, None, MatchOption};
+ghost use Rattle.std.specs.Prelude.{◌≡◌, is_some, Some, None, MatchResult};
 ghost use Rattle.design.specs.Numbers.{inputs_of, registers_of, nodes_of, first_failing};
 ghost use Rattle.netlist.specs.NotYet.{kind_landed, node_landed, input_single, register_single, lowering_refusal};
 
@@ -7,7 +7,7 @@ use design::encoded::Encoded;
 use design::node::Node;
 use design::refusal::Refusal;
 
-fn landed(node: Node) -> bool
+fn kind_landed(node: Node) -> bool
     ensures { result ≡ kind_landed node }
 {
     matches!(
@@ -21,7 +21,7 @@ fn first_other(design: Encoded<'_>) -> Option<u16>
     ensures { result ≡ first_failing (node_landed design.entry.numbers.now) (nodes_of design.entry.numbers.now) }
 {
     for n in 0..design.nodes() {
-        if !landed(design.node(n)) {
+        if !kind_landed(design.node(n)) {
             return Some(n);
         }
     }
@@ -50,17 +50,19 @@ fn wide_register(design: Encoded<'_>) -> bool
     false
 }
 
-// Why the design can't be lowered yet, if it can't.
-pub(crate) fn not_yet(design: Encoded<'_>) -> Option<Refusal>
-    ensures { result ≡ lowering_refusal design.entry.numbers.now }
+// Whether the design can be lowered yet; else why it can't.
+pub fn landed(design: Encoded<'_>) -> Result<(), Refusal>
+    ensures { MatchResult result
+        (λ _. lowering_refusal design.entry.numbers.now ≡ None)
+        (λ refusal. lowering_refusal design.entry.numbers.now ≡ Some refusal) }
 {
     if let Some(n) = first_other(design) {
-        return Some(Refusal::NotYet { node: n as u64 });
+        return Err(Refusal::NotYet { node: n as u64 });
     }
     if wide_input(design) || wide_register(design) {
-        return Some(Refusal::NotYet {
+        return Err(Refusal::NotYet {
             node: design.nodes() as u64,
         });
     }
-    None
+    Ok(())
 }

@@ -8,15 +8,15 @@ pub loop-n-init : goal.loop-n-init
 unfolding first_failing
 loop-n-init c = refl
 
-pub returns-then-not-landed : goal.returns-then-not-landed
-returns-then-not-landed c =
+pub returns-then-not-kind_landed : goal.returns-then-not-kind_landed
+returns-then-not-kind_landed c =
     let h : c.loop-n.n < nodes_of c.args.design.numbers.now = omega (arith, c.loop-n-test.true, c.nodes-n-end.ensures.count) in
-    sym (first_found _ _ _ c.loop-n.invariant (sym (node_test _ _ _ (c.node.ensures.is h)) ∙ sym c.if-not-landed.ensures) h)
+    sym (first_found _ _ _ c.loop-n.invariant (sym (node_test _ _ _ (c.node.ensures.is h)) ∙ sym c.if-not-kind_landed.ensures) h)
 
 pub loop-n-preserved : goal.loop-n-preserved
 loop-n-preserved c =
     let h : c.loop-n.n < nodes_of c.args.design.numbers.now = omega (arith, c.loop-n-test.true, c.nodes-n-end.ensures.count) in
-    first_more _ _ c.loop-n.invariant (sym (node_test _ _ _ (c.node.ensures.is h)) ∙ sym c.if-not-landed.ensures)
+    first_more _ _ c.loop-n.invariant (sym (node_test _ _ _ (c.node.ensures.is h)) ∙ sym c.if-not-kind_landed.ensures)
 
 pub returns : goal.returns
 returns c =
