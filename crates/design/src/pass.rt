@@ -56,16 +56,12 @@ fn summarize(design: Encoded<'_>, known: &[Summary], node: Node) -> Summary
     }
 }
 
-fn blank<const N: usize>() -> [Summary; N] {
-    [BLANK; N]
-}
-
 // The summaries of all nodes.
 pub(crate) fn pass(design: Encoded<'_>) -> [Summary; 1024]
     ensures { Known (design_in design.entry.numbers.now)
         (expr_at design.entry.numbers.now (nodes_of design.entry.numbers.now)) (nodes_of design.entry.numbers.now) result }
 {
-    let mut known: [Summary; 1024] = blank();
+    let mut known = [BLANK; 1024];
     let nodes = design.nodes();
     for n in 0..nodes {
         known[n as usize] = summarize(design, &known, design.node(n));
