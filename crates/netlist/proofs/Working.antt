@@ -39,9 +39,9 @@ wrote_more w w₁ at k new cell room a is = record {
 }
 
 -- a row that is written behind the last cell is added
-pub pushed : (w w₁ w₂ : Work) (start m : ℕ) (new : ℕ → ℕ → CellT) (bus : Bus) → start ≡ w.count → w.count + m ≤ 1024 → Wrote w w₁ start m (new start) →
+pub pushed : (w w₁ w₂ : Work) (start m : ℕ) (new : ℕ → CellT) (bus : Bus) → start ≡ w.count → w.count + m ≤ 1024 → Wrote w w₁ start m new →
     w₂ ≡ record { cells = w₁.cells; count = w₁.count + m; buses = w₁.buses; outputs = w₁.outputs } →
-    ((k : ℕ) → k < 64 → net_of bus k ≡ Cell (min 65535 (start + k))) → RowLaid w w₂ m (new w.count) bus
+    ((k : ℕ) → k < 64 → net_of bus k ≡ Cell (min 65535 (start + k))) → RowLaid w w₂ m new bus
 pushed w w₁ w₂ start m new bus e room wr e₂ nets = rw e₂ (record {
   cells = record {
     same = λ c h. wr.cells.below c (omega arith);

@@ -10,7 +10,8 @@ use crate::landed::landed;
 use crate::netlists::Netlist;
 use crate::operands::operands_of;
 use crate::operations::{AND, EQUAL, LESS, NOT, OR, PASS, SAME, XOR};
-use crate::row::Row;
+use crate::parts::Cell;
+use crate::row::{bit, constant};
 use crate::starts::bits_before;
 use crate::work::Work;
 use design::analysis::Analysis;
@@ -27,7 +28,7 @@ fn build(analysis: &Analysis<'_>, work: &mut Work, n: u16, node: Node) -> Bus
     match node {
         Node::Input(i) => Bus::inputs(bits_before(i, |j| analysis.design.input_width(j))),
         Node::Register(r) => Bus::cells(bits_before(r, |j| analysis.design.register(j).width)),
-        Node::Constant { width, value } => work.push(Row::Constant { value }, width),
+        Node::Constant { width, value } => work.push(width, |k| constant(value, k)),
         Node::And(a, b) => work.binary(AND, a, b, analysis.width(a)),
         Node::Or(a, b) => work.binary(OR, a, b, analysis.width(a)),
         Node::Xor(a, b) => work.binary(XOR, a, b, analysis.width(a)),
@@ -75,11 +76,8 @@ fn lay_registers(analysis: &Analysis<'_>, work: &mut Work)
         let next = work.bus(register.next);
         work.write(
             start,
-            Row::Register {
-                next,
-                initial: register.initial,
-            },
             register.width,
+            |k| Cell::register(next.net(k as usize), bit(register.initial, k)),
         );
         start += register.width;
     }

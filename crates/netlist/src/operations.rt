@@ -1,10 +1,12 @@
 // The rows of cells that an operation on nodes is laid out as.
 ghost use Rattle.std.specs.Prelude.{◌≡◌, ◌+◌, ◌<◌, ◌≤◌};
 ghost use Rattle.netlist.specs.Building.{gate_row, chain_row};
+ghost use Rattle.netlist.specs.Rows.{net_of};
 ghost use Rattle.netlist.specs.Works.{nets_at, zeros, RowAsks, RowLaid, Compared, Summed};
 
 use crate::bus::Bus;
-use crate::row::Row;
+use crate::parts::{Cell, Net};
+use crate::row::link;
 use crate::work::Work;
 
 // Tables: bit k is what a cell looks up where its first input counts 1, its second 2 and its third 4.
@@ -36,16 +38,8 @@ impl Work {
         requires { RowAsks self.old a a width }
         ensures { RowLaid self.old self.new width (gate_row table (nets_at self.old a) zeros zeros) result }
     {
-        let none = Bus::zero();
-        self.push(
-            Row::Gates {
-                table,
-                a: self.bus(a),
-                b: none,
-                c: none,
-            },
-            width,
-        )
+        let a = self.bus(a);
+        self.push(width, |k| Cell::gate(table, a.net(k as usize), Net::Zero))
     }
 
     // One gate a bit, of two nodes.
@@ -53,15 +47,29 @@ impl Work {
         requires { RowAsks self.old a b width }
         ensures { RowLaid self.old self.new width (gate_row table (nets_at self.old a) (nets_at self.old b) zeros) result }
     {
-        let none = Bus::zero();
+        let a = self.bus(a);
+        let b = self.bus(b);
         self.push(
-            Row::Gates {
-                table,
-                a: self.bus(a),
-                b: self.bus(b),
-                c: none,
-            },
             width,
+            |k| Cell::gate(table, a.net(k as usize), b.net(k as usize)),
+        )
+    }
+
+    // One gate a bit, of two nodes and a third bus.
+    fn ternary(&mut self, table: u16, a: u16, b: u16, c: Bus, width: u16) -> Bus
+        requires { RowAsks self.old a b width }
+        ensures { RowLaid self.old self.new width (gate_row table (nets_at self.old a) (nets_at self.old b) (net_of c)) result }
+    {
+        let a = self.bus(a);
+        let b = self.bus(b);
+        self.push(
+            width,
+            |k| Cell::gate_of_three(
+                table,
+                a.net(k as usize),
+                b.net(k as usize),
+                c.net(k as usize),
+            ),
         )
     }
 
@@ -72,15 +80,7 @@ impl Work {
         ensures { RowLaid self.old self.new width (gate_row 172 (nets_at self.old one) (nets_at self.old zero) (λ k. nets_at self.old choice 0)) result }
     {
         let all = Bus::all(self.bus(choice).net(0));
-        self.push(
-            Row::Gates {
-                table: MUX,
-                a: self.bus(one),
-                b: self.bus(zero),
-                c: all,
-            },
-            width,
-        )
+        self.ternary(MUX, one, zero, all, width)
     }
 
     // One cell a bit, of two nodes and of the cell of the bit below.
@@ -88,14 +88,12 @@ impl Work {
         requires { RowAsks self.old a b width }
         ensures { RowLaid self.old self.new width (chain_row first table (nets_at self.old a) (nets_at self.old b) self.old.count) result }
     {
+        let start = self.count as u16;
+        let a = self.bus(a);
+        let b = self.bus(b);
         self.push(
-            Row::Chain {
-                first,
-                table,
-                a: self.bus(a),
-                b: self.bus(b),
-            },
             width,
+            |k| link(start, k, first, table, a.net(k as usize), b.net(k as usize)),
         )
     }
 
@@ -118,14 +116,6 @@ impl Work {
         let carries = self.chain(CARRY, CARRY, a, b, width);
         let none = Bus::zero();
         let into = carries.above(none, 1);
-        self.push(
-            Row::Gates {
-                table: SUM,
-                a: self.bus(a),
-                b: self.bus(b),
-                c: into,
-            },
-            width,
-        )
+        self.ternary(SUM, a, b, into, width)
     }
 }

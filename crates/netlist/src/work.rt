@@ -1,11 +1,10 @@
 // A netlist under construction.
 ghost use Rattle.std.specs.Prelude.{◌≡◌, ℕ, ◌+◌, ◌<◌, ◌≤◌, false, length, Some, slice_set};
-ghost use Rattle.netlist.specs.Rows.{row_cell};
+ghost use Rattle.netlist.specs.declared.parts.Cell.{Cell as CellT};
 ghost use Rattle.netlist.specs.Works.{is_laid, bus_at, outs_of, Wrote, RowLaid};
 
 use crate::bus::Bus;
 use crate::parts::Cell;
-use crate::row::Row;
 
 // The cells so far, registers first; the nets of each node that is laid out; the cells of the output bits so far.
 #[derive(Drop)]
@@ -74,23 +73,26 @@ impl Work {
         self.cells[at as usize] = cell;
     }
 
-    // Writes a row of cells from `at` on.
-    pub(crate) fn write(&mut self, at: u16, row: Row, width: u16)
-        requires { at + width ≤ 1024 }
-        ensures { Wrote self.old self.new at width (row_cell row at) }
+    // Writes a row of so many cells, those that a function gives for the bits, from `at` on.
+    pub(crate) fn write<F: Fn(u16) -> Cell>(&mut self, at: u16, width: u16, cell: F)
+        requires callable { F.IsAlwaysCallable cell }
+        requires room { at + width ≤ 1024 }
+        ensures count { self.new.count ≡ self.old.count }
+        ensures wrote { (row : ℕ → CellT) → ((k : ℕ) (c : CellT) → k < width → F.post cell k c → c ≡ row k) → Wrote self.old self.new at width row }
     {
         for k in 0..width {
-            self.put(at + k, row.cell(at, k));
+            self.put(at + k, cell(k));
         }
     }
 
-    // Adds a row of cells, and gives their nets.
-    pub(crate) fn push(&mut self, row: Row, width: u16) -> Bus
-        requires { self.old.count + width ≤ 1024 }
-        ensures { RowLaid self.old self.new width (row_cell row self.old.count) result }
+    // Adds such a row of cells, and gives their nets.
+    pub(crate) fn push<F: Fn(u16) -> Cell>(&mut self, width: u16, cell: F) -> Bus
+        requires callable { F.IsAlwaysCallable cell }
+        requires room { self.old.count + width ≤ 1024 }
+        ensures { (row : ℕ → CellT) → ((k : ℕ) (c : CellT) → k < width → F.post cell k c → c ≡ row k) → RowLaid self.old self.new width row result }
     {
         let start = self.count as u16;
-        self.write(start, row, width);
+        self.write(start, width, cell);
         self.count += width as usize;
         Bus::cells(start)
     }

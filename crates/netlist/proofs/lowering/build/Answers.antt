@@ -101,12 +101,12 @@ returns-in-Mux c =
 pub push-requires : goal.push-requires
 push-requires c =
     let k = asks_as _ _ _ _ _ c.in-Constant.is c.requires in
-    constant_room _ _ _ _ _ k
+    record { callable = search rules; room = constant_room _ _ _ _ _ k }
 
 pub returns-in-Constant : goal.returns-in-Constant
 returns-in-Constant c =
     let k = asks_as _ _ _ _ _ c.in-Constant.is c.requires in
-    gives_as _ _ _ _ _ _ _ c.in-Constant.is (constant_built _ _ _ _ _ _ _ k c.push.ensures)
+    gives_as _ _ _ _ _ _ _ c.in-Constant.is (constant_built _ _ _ _ _ _ _ k (c.push.ensures _ (λ j x h p. search (rules, p))))
 
 pub bus-requires : goal.bus-requires
 bus-requires c =

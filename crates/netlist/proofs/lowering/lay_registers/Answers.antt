@@ -1,4 +1,4 @@
-use Rattle.std.proofs.Common.{◌≡◌, ◌<◌, sym, arith}
+use Rattle.std.proofs.Common.{◌≡◌, ◌<◌, sym, arith, rules}
 use Rattle.design.specs.Numbers.{registers_of, design_in}
 use Rattle.netlist.proofs.Totals.{total_zero, total_more}
 use Rattle.netlist.proofs.Whole.{register_asks, register_place, register_small, register_step}
@@ -20,7 +20,7 @@ bus-next-requires c =
 pub write-requires : goal.write-requires
 write-requires c =
     let h : c.loop-r.r < registers_of c.args.analysis.now.design.numbers.now = omega (arith, c.loop-r-test.true, c.registers-r-end.ensures) in
-    register_place _ c.requires.lowerable _ _ _ h c.loop-r.invariant.1 c.register-register.ensures.width
+    record { callable = search rules; room = register_place _ c.requires.lowerable _ _ _ h c.loop-r.invariant.1 c.register-register.ensures.width }
 
 pub overflow_add-start : goal.overflow_add-start
 overflow_add-start c =
@@ -31,7 +31,7 @@ pub loop-r-preserved : goal.loop-r-preserved
 loop-r-preserved c =
     let h : c.loop-r.r < registers_of c.args.analysis.now.design.numbers.now = omega (arith, c.loop-r-test.true, c.registers-r-end.ensures) in (
       register_step _ c.requires.lowerable _ _ _ _ _ _ _ _ _ h c.register-register.ensures.next c.loop-r.invariant.0 c.lay.ensures c.loop-r.invariant.1 c.register-register.ensures.width
-          c.bus-next.ensures c.register-register.ensures.initial c.write.ensures,
+          c.bus-next.ensures c.register-register.ensures.initial (c.write.ensures.wrote _ (λ k x h p. search (rules, p))),
       omega (arith, c.loop-r.invariant.1, c.register-register.ensures.width, total_more c.loop-r.r (design_in c.args.analysis.now.design.numbers.now).register_width),
     )
 

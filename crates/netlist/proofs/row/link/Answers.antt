@@ -8,13 +8,13 @@ at_first : (start k f t : ℕ) (a b : Net) → k ≡ 0 → gate f a b Zero ≡ g
 unfolding table_at handed
 at_first start k f t a b e = rw e refl
 
-at_other : (start k f t : ℕ) (a b : Net) → (k ≡ 0 → ⊥) → gate t a b (Cell (start + (k - 1))) ≡ gate (table_at f t k) a b (handed start k)
+at_other : (start k f t n : ℕ) (a b : Net) → (k ≡ 0 → ⊥) → n ≡ start + (k - 1) → gate t a b (Cell n) ≡ gate (table_at f t k) a b (handed start k)
 unfolding table_at handed
-at_other start zero f t a b e = absurd (e refl)
-at_other start (suc k) f t a b e = let q : suc k - 1 ≡ k = omega arith in rw q refl
+at_other start zero f t n a b e is = absurd (e refl)
+at_other start (suc k) f t n a b e is = let q : n ≡ start + k = omega arith in rw q refl
 
 pub returns-then-k-eq0 : goal.returns-then-k-eq0
-returns-then-k-eq0 c = c.gate.ensures ∙ at_first _ _ _ _ _ _ c.if-k-eq0.true
+returns-then-k-eq0 c = λ room. c.gate.ensures ∙ at_first _ _ _ _ _ _ c.if-k-eq0.true
 
 pub returns-else-k-eq0 : goal.returns-else-k-eq0
-returns-else-k-eq0 c = c.gate_of_three.ensures ∙ at_other _ _ _ _ _ _ c.if-k-eq0.false
+returns-else-k-eq0 c = λ room. c.gate_of_three.ensures ∙ at_other _ _ _ _ _ _ _ c.if-k-eq0.false (omega (arith, room))
