@@ -10,6 +10,7 @@ pub mod Working
 pub mod Buses
 pub mod Nodes
 pub mod Laying
+pub mod Refusing
 pub mod Whole
 pub mod LandedTests
 pub mod Landing

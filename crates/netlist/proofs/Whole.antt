@@ -1,8 +1,6 @@
 -- The registers and outputs of a design in numbers, and the whole netlist.
-use Rattle.std.proofs.Common.{◌≡◌, ℕ, ◌+◌, ◌<◌, ◌≤◌, min, true, false, ltb, List, get_or, is_some, Some, None, sym, refl, ap, ◌∙◌, arith}
-use Rattle.std.proofs.lemmas.Bool.{and_parts, eqb-true, lt-ltb, le-ltb, both_ways}
-use Rattle.design.specs.declared.refusal.Refusal.{Refusal}
-use Rattle.design.specs.declared.refusal.Refusal.TheVariants.{Cells, NetTracks}
+use Rattle.std.proofs.Common.{◌≡◌, ℕ, ◌+◌, ◌<◌, ◌≤◌, min, true, false, List, get_or, is_some, Some, None, sym, refl, ap, ◌∙◌, arith}
+use Rattle.std.proofs.lemmas.Bool.{and_parts, eqb-true, both_ways}
 use Rattle.design.specs.Designs.{word, width, width_ok, well_formed, register_sound, output_sound, cells, total, input_bits, output_width, output_cells, plain_cells, plain_tracks}
 use Rattle.design.specs.Numbers.{nodes_of, registers_of, outputs_of, register_node, output_node, design_in, reading_refusal, soundness_refusal}
 use Rattle.design.proofs.Reading.{Readable, readable}
@@ -14,12 +12,13 @@ use Rattle.netlist.specs.declared.netlists.Netlist.{Netlist as NetlistT}
 use Rattle.netlist.specs.Building.{cell_at, register_bits, CarriesWord, Extends, Laid, gate_row, register_row, RegistersAt, OutputsAt, registers_most, outputs_most, Lowering}
 use Rattle.netlist.specs.Rows.{net_of}
 use Rattle.netlist.specs.Works.{cells_of, bus_at, nets_at, is_laid, outs_of, zeros, Wrote, RowLaid, RowAsks}
-use Rattle.netlist.specs.Lowerings.{expr_in, Lowerable, Built, LayAsks, LayGives, RegistersIn, OutputsIn, netlist_of, words_refusal}
+use Rattle.netlist.specs.Lowerings.{expr_in, Lowerable, Built, LayAsks, LayGives, RegistersIn, OutputsIn, netlist_of, small_refusal, words_refusal}
 use Rattle.netlist.proofs.Growing.{carries_more}
 use Rattle.netlist.proofs.Roots.{registers_begin, registers_step, outputs_begin, outputs_step}
 use Rattle.netlist.proofs.Finished.{plain_is_most, lowering}
 use Rattle.netlist.proofs.Laying.{node_small}
 use Rattle.netlist.proofs.Widths.{Range, width_range}
+use Rattle.netlist.proofs.Refusing.{small_none, small_says, words_none}
 
 -- nodes that are laid out stay so while cells are added or registers written, and nothing is noted
 built_more : (xs : List ℕ) (w w₁ : Work) → Extends (register_bits (design_in xs)) (cells_of w) w.count (cells_of w₁) w₁.count →
@@ -224,36 +223,17 @@ finished xs w n a ec en eo = rw (ec, en, eo) (lowering (design_in xs) (cells_of 
 
 -- 4. Refusals.
 
-pub refuses_unsound : (xs : List ℕ) (f : Refusal) → soundness_refusal (design_in xs) ≡ Some f → words_refusal xs ≡ Some f
-unfolding words_refusal
-refuses_unsound xs f h = rw h refl
-
-pub refuses_cells : (xs : List ℕ) (n : ℕ) → soundness_refusal (design_in xs) ≡ None → n ≡ min 65536 (plain_cells (design_in xs)) → 1024 < n → words_refusal xs ≡ Some (Cells n)
-unfolding words_refusal
-refuses_cells xs n s e h = let t : ltb 1024 (plain_cells (design_in xs)) ≡ true = lt-ltb 1024 (plain_cells (design_in xs)) (omega arith) in rw (s, t, e) refl
-
-pub refuses_tracks : (xs : List ℕ) (n t : ℕ) → soundness_refusal (design_in xs) ≡ None → n ≡ min 65536 (plain_cells (design_in xs)) → n ≤ 1024 →
-    t ≡ min 65536 (plain_tracks (design_in xs)) → 65535 < t → words_refusal xs ≡ Some (NetTracks t)
-unfolding words_refusal
-refuses_tracks xs n t s e h et ht =
-    let a : ltb 1024 (plain_cells (design_in xs)) ≡ false = le-ltb 1024 (plain_cells (design_in xs)) (omega arith) in
-    let b : ltb 65535 (plain_tracks (design_in xs)) ≡ true = lt-ltb 65535 (plain_tracks (design_in xs)) (omega arith) in
-    rw (s, a, b, et) refl
-
 pub refuses_none : (xs : List ℕ) (n t : ℕ) → soundness_refusal (design_in xs) ≡ None → n ≡ min 65536 (plain_cells (design_in xs)) → n ≤ 1024 →
     t ≡ min 65536 (plain_tracks (design_in xs)) → t ≤ 65535 → words_refusal xs ≡ None
-unfolding words_refusal
-refuses_none xs n t s e h et ht =
-    let a : ltb 1024 (plain_cells (design_in xs)) ≡ false = le-ltb 1024 (plain_cells (design_in xs)) (omega arith) in
-    let b : ltb 65535 (plain_tracks (design_in xs)) ≡ false = le-ltb 65535 (plain_tracks (design_in xs)) (omega arith) in
-    rw (s, a, b) refl
+refuses_none xs n t s e h et ht = words_none xs t (small_none (design_in xs) n s e h) et ht
 
-pub lowerable : (xs : List ℕ) (n t : ℕ) → reading_refusal xs ≡ None → soundness_refusal (design_in xs) ≡ None → n ≡ min 65536 (plain_cells (design_in xs)) → n ≤ 1024 →
-    t ≡ min 65536 (plain_tracks (design_in xs)) → t ≤ 65535 → Lowerable xs
+pub lowerable : (xs : List ℕ) (t : ℕ) → reading_refusal xs ≡ None → small_refusal (design_in xs) ≡ None → t ≡ min 65536 (plain_tracks (design_in xs)) → t ≤ 65535 → Lowerable xs
 unfolding plain_tracks input_bits
-lowerable xs n t r s e h et ht = record {
-  readable = r;
-  sound = sound_from_none (design_in xs) s;
-  few_cells = omega arith;
-  few_inputs = λ i small there. omega (arith, total_one (design_in xs).input_width i (design_in xs).inputs there);
-}
+lowerable xs t r s et ht =
+    let p = small_says (design_in xs) s in
+    record {
+      readable = r;
+      sound = sound_from_none (design_in xs) p.0;
+      few_cells = p.1;
+      few_inputs = λ i small there. omega (arith, total_one (design_in xs).input_width i (design_in xs).inputs there);
+    }

@@ -133,6 +133,10 @@ netlist_of n = netlist_in (cell_at n.cells) n.count (λ m. slice_index n.outputs
 abbrev pub Lowered : Design → NetlistT → Type 0
 Lowered d n = Lowering d (netlist_of n)
 
+-- why a design is not lowered, whatever its words: it isn't sound, or takes more cells than any fabric has
+unfoldable pub small_refusal : Design → Option Refusal
+small_refusal d = option_or (soundness_refusal d) (then_some (nat_lt 1024 (plain_cells d)) (Cells (min 65536 (plain_cells d))))
+
 -- why a readable design is not lowered: it isn't sound; it takes more cells than any fabric has; it can't be lowered yet
 unfoldable pub lower_refusal : List ℕ → Option Refusal
 lower_refusal xs =

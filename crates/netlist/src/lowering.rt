@@ -1,9 +1,9 @@
 // Laying out the nodes of a design as cells, each node at most once.
 ghost use Rattle.std.specs.Prelude.{◌≡◌, Some, None, MatchResult};
 ghost use Rattle.design.specs.Numbers.{design_in};
-ghost use Rattle.design.specs.Encodings.{list_of, design_of};
+ghost use Rattle.design.specs.Encodings.{list_of, design_of, Counted};
 ghost use Rattle.netlist.specs.Building.{Lowering};
-ghost use Rattle.netlist.specs.Lowerings.{LayAsks, LayGives, BuildAsks, BuildGives, Lowerable, RegistersIn, OutputsIn, netlist_of, Lowered, lower_refusal, words_refusal};
+ghost use Rattle.netlist.specs.Lowerings.{LayAsks, LayGives, BuildAsks, BuildGives, Lowerable, RegistersIn, OutputsIn, netlist_of, Lowered, small_refusal, lower_refusal, words_refusal};
 
 use crate::bus::Bus;
 use crate::landed::landed;
@@ -15,6 +15,7 @@ use crate::row::{bit, constant};
 use crate::starts::bits_before;
 use crate::work::Work;
 use design::analysis::Analysis;
+use design::counts::Counts;
 use design::encoded::Encoded;
 use design::node::Node;
 use design::refusal::Refusal;
@@ -116,11 +117,11 @@ fn whole(analysis: &Analysis<'_>) -> Netlist
     Netlist::new(work.cells, work.count, work.outputs)
 }
 
-// The netlist of a design of single bits, inputs, registers, and, xor; or the first reason why there is none.
-pub fn lower(design: Encoded<'_>) -> Result<Netlist, Refusal>
+// The counts of a sound design that takes no more cells than any fabric has.
+fn small(design: Encoded<'_>) -> Result<Counts, Refusal>
     ensures { MatchResult result
-        (λ n. (lower_refusal design.entry.numbers.now ≡ None) × Lowered (design_in design.entry.numbers.now) n)
-        (λ f. lower_refusal design.entry.numbers.now ≡ Some f) }
+        (λ counts. (small_refusal (design_of design.entry) ≡ None) × Counted (design_of design.entry) counts)
+        (λ refusal. small_refusal (design_of design.entry) ≡ Some refusal) }
 {
     let counts = check(design)?;
     if counts.cells > 1024 {
@@ -128,6 +129,16 @@ pub fn lower(design: Encoded<'_>) -> Result<Netlist, Refusal>
             needed: counts.cells,
         });
     }
+    Ok(counts)
+}
+
+// The netlist of a design of single bits, inputs, registers, and, xor; or the first reason why there is none.
+pub fn lower(design: Encoded<'_>) -> Result<Netlist, Refusal>
+    ensures { MatchResult result
+        (λ n. (lower_refusal design.entry.numbers.now ≡ None) × Lowered (design_in design.entry.numbers.now) n)
+        (λ f. lower_refusal design.entry.numbers.now ≡ Some f) }
+{
+    small(design)?;
     landed(design)?;
     Ok(whole(&Analysis::new(design)))
 }
@@ -138,12 +149,7 @@ pub fn lower_words(design: Encoded<'_>) -> Result<Netlist, Refusal>
         (λ n. (words_refusal (list_of design.entry) ≡ None) × Lowering (design_of design.entry) (netlist_of n))
         (λ f. words_refusal (list_of design.entry) ≡ Some f) }
 {
-    let counts = check(design)?;
-    if counts.cells > 1024 {
-        return Err(Refusal::Cells {
-            needed: counts.cells,
-        });
-    }
+    let counts = small(design)?;
     if counts.tracks > 65535 {
         return Err(Refusal::NetTracks {
             needed: counts.tracks,
