@@ -4,7 +4,8 @@ ghost use Rattle.netlist.specs.Lowerings.{operands_of};
 
 use design::node::Node;
 
-// At most three, in the order in which they are laid out.
+// At most three, in the order in which they are laid out. Three fields and not an array: laying out is a call for each, and an array
+// would take a loop that has to say what the calls before it laid out.
 #[derive(Clone, Copy)]
 pub(crate) struct Operands {
     pub first: Option<u16>,

@@ -7,6 +7,8 @@ use crate::bus::Bus;
 use crate::parts::Cell;
 
 // The cells so far, registers first; the nets of each node that is laid out; the cells of the output bits so far.
+// An array and a count, and no list that grows: the registers' cells come first and are written last, so such a list would be filled
+// with cells that say nothing, and written over.
 #[derive(Drop)]
 pub(crate) struct Work {
     pub cells: [Cell; 1024],
