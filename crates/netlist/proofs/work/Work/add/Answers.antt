@@ -1,0 +1,6 @@
+use Rattle.std.proofs.Common.{refl}
+use Rattle.netlist.proofs.Working.{summed}
+use Rattle.netlist.proofs.work.Work.add.Goals as goal
+
+pub returns : goal.returns
+returns c = summed _ _ _ _ _ _ _ _ _ _ _ _ c.requires.row.narrow c.chain-carries.ensures (λ k h. c.zero-none.ensures.nets k) c.above-into.ensures refl refl c.ternary.ensures
