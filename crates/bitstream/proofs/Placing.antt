@@ -23,6 +23,12 @@ use Rattle.route.specs.Plain.{toward, plain_source, plain_net}
 use Rattle.bitstream.specs.declared.plans.Plan.{Plan}
 use Rattle.bitstream.specs.Plans.{grid_of, inputs_of, count_of, cell_of, NumberAt, CellsWritten}
 
+-- a net that a cell of the plan reads is there
+pub net_exists : (i n : ℕ) (net : Net) → ((j : ℕ) → (net ≡ Input j → j < i) × (net ≡ Cell j → j < n)) → Exists i n net
+net_exists i n Zero h = tt
+net_exists i n (Input j) h = (h j).0 refl
+net_exists i n (Cell j) h = (h j).1 refl
+
 -- sources of the plain layout have numbers
 track_numbered : (s : Side) (t : ℕ) → t < 64 → numbered (Track s t) ≡ Track s t
 track_numbered s t h = rw (lt-ltb t 64 h) refl

@@ -1,8 +1,9 @@
 // Bits and pins: a design put on the fabric.
 #![tactic(auto)]
 
-ghost use Rattle.std.specs.Prelude.{◌≡◌};
-ghost use Rattle.bitstream.specs.Puts.{PutSays};
+ghost use Rattle.std.specs.Prelude.{IfOk};
+ghost use Rattle.bitstream.specs.Puts.{PutSays, PutWordsSays};
+ghost use Rattle.bitstream.specs.Plans.{Fits, CarriesOut};
 
 mod pinning;
 mod planning;
@@ -11,11 +12,12 @@ pub mod theorem;
 mod writing;
 
 use crate::pinning::write_pins;
-use crate::planning::plan;
+use crate::planning::{plan, plan_words};
+use crate::plans::Plan;
 use crate::writing::write_room;
 use design::refusal::Refusal;
 
-// What `put` answers.
+// What `put` answers. It stays an enum of its own, and no `Result`, since C reads it.
 #[derive(Clone, Copy)]
 pub enum Made {
     // the room holds the fabric's bits, and the pins are written
@@ -24,7 +26,8 @@ pub enum Made {
     Refused(Refusal),
 }
 
-// Puts a design in numbers on a fabric of so many columns (`across`), rows (`down`) and tracks.
+// Puts a design in numbers on a fabric of so many columns (`across`), rows (`down`) and tracks: single bits, inputs, registers, and, xor,
+// and one row. The parameters stand alone since C calls it.
 pub fn put(
     across: u64,
     down: u64,
@@ -35,7 +38,31 @@ pub fn put(
 ) -> Made
     ensures { PutSays (record { columns = across; rows = down; tracks = tracks }) design.now room.old pins.old result room.new pins.new }
 {
-    match plan(across, down, tracks, design, room, pins) {
+    let planned = plan(across, down, tracks, design, room, pins);
+    carry_out(planned, room, pins)
+}
+
+// The same of any sound design, of words of up to 64 bits, and any fabric.
+pub fn put_words(
+    across: u64,
+    down: u64,
+    tracks: u64,
+    design: &[u16],
+    room: &mut [u16],
+    pins: &mut [u16],
+) -> Made
+    ensures { PutWordsSays (record { columns = across; rows = down; tracks = tracks }) design.now room.old pins.old result room.new pins.new }
+{
+    let planned = plan_words(across, down, tracks, design, room, pins);
+    carry_out(planned, room, pins)
+}
+
+// Writes what is planned; where a design is refused, nothing.
+fn carry_out(planned: Result<Plan, Refusal>, room: &mut [u16], pins: &mut [u16]) -> Made
+    requires { IfOk planned (Fits room.old pins.old) }
+    ensures { CarriesOut planned room.old pins.old result room.new pins.new }
+{
+    match planned {
         Err(refusal) => Made::Refused(refusal),
         Ok(plan) => {
             write_room(&plan, room);

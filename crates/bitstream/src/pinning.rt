@@ -1,15 +1,14 @@
 // Writing the pins of a plan.
 ghost use Rattle.std.specs.Prelude.{◌≡◌, ℕ, ◌+◌, ◌*◌, ◌<◌, ◌≤◌, length, slice_set};
 ghost use Rattle.fabric.specs.Numbers.{side_number};
-ghost use Rattle.bitstream.specs.Plans.{OutputsExist, pin_of, PinsWritten};
+ghost use Rattle.bitstream.specs.Plans.{pin_of, PinsWritten};
 
 use crate::plans::Plan;
 use fabric::parts::Pin;
 
 // The pin of number m.
 fn pin_of(plan: &Plan, m: usize) -> Pin
-    requires exist { OutputsExist plan.now }
-    requires there { m < plan.now.pins }
+    requires { m < plan.now.pins }
     ensures { result ≡ pin_of plan.now m }
 {
     let inputs = plan.routing.inputs as usize;
@@ -33,8 +32,7 @@ fn write_pin(pins: &mut [u16], m: usize, pin: Pin)
 
 // The pins of the input bits, then those of the output bits; what lies past them stays.
 pub(crate) fn write_pins(plan: &Plan, pins: &mut [u16])
-    requires exist { OutputsExist plan.now }
-    requires room { 3 * plan.now.pins ≤ length pins.old }
+    requires { 3 * plan.now.pins ≤ length pins.old }
     ensures { PinsWritten plan.now plan.now.pins pins.old pins.new }
 {
     for m in 0..plan.pins {

@@ -16,7 +16,7 @@ returns-else-m-inputs c =
     let p = c.args.plan.now in
     let i = c.args.plan.now.routing.inputs in
     let m = c.args.m in
-    let l : i + (m - i) < p.pins = omega (arith, c.requires.there, c.if-m-inputs.false) in
-    let x = c.requires.exist (m - i) l in
+    let l : i + (m - i) < p.pins = omega (arith, c.requires, c.if-m-inputs.false) in
+    let x = p.outputs (m - i) l in
     let e : c.output.result ≡ get_or p.netlist.outputs (m - i) 0 = c.output.ensures.within x.0 in
     c.output_pin.ensures.is (omega (arith, e, x.1)) ∙ ap (λ (k : ℕ). above (i + k)) e ∙ pin_out p m c.if-m-inputs.false

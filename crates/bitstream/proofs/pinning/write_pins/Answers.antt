@@ -8,7 +8,7 @@ loop-m-init c = pins_begin c.args.plan.now c.args.pins.now
 pub loop-m-preserved : goal.loop-m-preserved
 loop-m-preserved c =
     pins_more c.args.plan.now c.loop-m.m c.pin_of.result _ _ _
-    (omega (arith, c.loop-m-test.true, c.requires.room, c.loop-m.auto.pins)) c.pin_of.ensures c.loop-m.invariant c.write_pin.ensures
+    (omega (arith, c.loop-m-test.true, c.requires, c.loop-m.auto.pins)) c.pin_of.ensures c.loop-m.invariant c.write_pin.ensures
 
 pub returns : goal.returns
 returns c =

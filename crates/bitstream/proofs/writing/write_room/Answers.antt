@@ -17,12 +17,12 @@ offset_bounds-room-start c = let s = part_small c.args.plan.now _ _ _ c.loop-at-
 pub slice_bounds-write_cell-end : goal.slice_bounds-write_cell-end
 slice_bounds-write_cell-end c =
     let s = part_within _ _ _ _ c.loop-at-test.true c.per_cell-size.ensures c.cells-at-end.ensures in
-    let l : c.loop-at.at * c.per_cell-size.result + c.per_cell-size.result ≤ length c.loop-at.room = omega (arith, s, c.loop-at.auto.room, c.requires.long) in
+    let l : c.loop-at.at * c.per_cell-size.result + c.per_cell-size.result ≤ length c.loop-at.room = omega (arith, s, c.loop-at.auto.room, c.requires) in
     search rules
 
 pub loop-at-preserved : goal.loop-at-preserved
 loop-at-preserved c =
-    cell_step c.args.plan.now _ _ _ _ _ c.loop-at-test.true c.per_cell-size.ensures c.cells-at-end.ensures (c.loop-at.auto.room ∙ c.requires.long) c.write_cell.auto.numbers c.loop-at.invariant c.write_cell.ensures
+    cell_step c.args.plan.now _ _ _ _ _ c.loop-at-test.true c.per_cell-size.ensures c.cells-at-end.ensures (c.loop-at.auto.room ∙ c.requires) c.write_cell.auto.numbers c.loop-at.invariant c.write_cell.ensures
 
 pub returns : goal.returns
 returns c = λ b j h l. c.loop-at.invariant b j (omega (arith, c.loop-at-test.false, c.cells-at-end.ensures)) l
