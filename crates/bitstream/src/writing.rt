@@ -33,24 +33,14 @@ fn number(plan: &Plan, at: u16, j: usize) -> u16
     }
 }
 
-// The numbers of one cell of the fabric.
-fn write_cell(plan: &Plan, at: u16, numbers: &mut [u16])
-    ensures { (j : ℕ) → j < length numbers.old → PlanHas plan.now at j (slice_index numbers.new j) }
-{
-    for (j, number_here) in numbers.iter_mut().enumerate() {
-        *number_here = number(plan, at, j);
-    }
-}
-
-// The numbers of the whole fabric, cell by cell; each cell's part of the room is lent on to be written.
+// The numbers of the whole fabric, cell by cell. One loop goes over all of them: after one over `chunks_exact_mut`, which was tried, a
+// proof knows nothing of what the chunks hold.
 pub(crate) fn write_room(plan: &Plan, room: &mut [u16])
     requires { length room.old ≡ room_length (grid_of plan.now) }
     ensures { CellsWritten plan.now (cell_count (grid_of plan.now)) room.new }
 {
-    let grid = plan.routing.grid;
-    let size = grid.per_cell();
-    for at in 0..grid.cells() {
-        let start = at * size;
-        write_cell(plan, at as u16, &mut room[start..start + size]);
+    let size = plan.routing.grid.per_cell();
+    for (place, written) in room.iter_mut().enumerate() {
+        *written = number(plan, (place / size) as u16, place % size);
     }
 }
