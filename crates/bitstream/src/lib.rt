@@ -11,10 +11,8 @@ mod plans;
 pub mod theorem;
 mod writing;
 
-use crate::pinning::write_pins;
 use crate::planning::{plan, plan_words};
 use crate::plans::Plan;
-use crate::writing::write_room;
 use design::refusal::Refusal;
 
 // What `put` answers. It stays an enum of its own, and no `Result`, since C reads it.
@@ -65,8 +63,8 @@ fn carry_out(planned: Result<Plan, Refusal>, room: &mut [u16], pins: &mut [u16])
     match planned {
         Err(refusal) => Made::Refused(refusal),
         Ok(plan) => {
-            write_room(&plan, room);
-            write_pins(&plan, pins);
+            plan.write_room(room);
+            plan.write_pins(pins);
             Made::Placed
         }
     }

@@ -1,16 +1,16 @@
 use Rattle.std.proofs.Common.{◌<◌, ◌≢◌, length, ◌∙◌, arith, below_more, get_or-set_other, get_or-set_same}
 use Rattle.fabric.specs.Code.{size_of}
 use Rattle.bitstream.proofs.Placing.{some_numbers, few_cells_before, cells_written}
-use Rattle.bitstream.proofs.writing.write_room.Goals as goal
+use Rattle.bitstream.proofs.plans.Plan.write_room.Goals as goal
 
 pub nonzero_div-place : goal.nonzero_div-place
-nonzero_div-place c = omega (arith, some_numbers (size_of c.args.plan.now.routing.grid))
+nonzero_div-place c = omega (arith, some_numbers (size_of c.args.self.now.routing.grid))
 
 pub nonzero_rem-place : goal.nonzero_rem-place
-nonzero_rem-place c = omega (arith, some_numbers (size_of c.args.plan.now.routing.grid))
+nonzero_rem-place c = omega (arith, some_numbers (size_of c.args.self.now.routing.grid))
 
 pub overflow_cast-place : goal.overflow_cast-place
-overflow_cast-place c = record { fits = few_cells_before c.args.plan.now.routing.grid c.loop-place.place c.per_cell-size.result (omega arith) }
+overflow_cast-place c = record { fits = few_cells_before c.args.self.now.routing.grid c.loop-place.place c.per_cell-size.result (omega arith) }
 
 pub loop-place-preserved : goal.loop-place-preserved
 loop-place-preserved c =
@@ -20,5 +20,5 @@ loop-place-preserved c =
 
 pub returns : goal.returns
 returns c =
-    cells_written c.args.plan.now c.per_cell-size.result c.loop-place.room c.per_cell-size.ensures (c.loop-place.auto.room ∙ c.requires)
+    cells_written c.args.self.now c.per_cell-size.result c.loop-place.room c.per_cell-size.ensures (c.loop-place.auto.room ∙ c.requires)
     (λ k h. c.loop-place.invariant k (omega arith))

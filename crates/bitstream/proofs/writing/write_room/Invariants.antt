@@ -1,6 +1,0 @@
-use Rattle.std.proofs.Common.{ℕ, ◌/◌, ◌%◌, ◌<◌, get_or}
-use Rattle.bitstream.specs.Plans.{PlanHas}
-use Rattle.bitstream.proofs.writing.write_room.Given as goal
-
-abbrev pub invariant-loop-place : goal.invariant-loop-place
-invariant-loop-place l = (k : ℕ) → k < l.place → PlanHas l.plan (k / l.size) (k % l.size) (get_or l.room k 0)
