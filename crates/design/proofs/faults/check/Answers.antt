@@ -1,6 +1,6 @@
 use Rattle.std.proofs.Common.{sym, ◌∙◌, arith}
 use Rattle.design.proofs.Reading.{Long, refuses_length, refuses_count, refuses_node, refuses_register, refuses_output, refuses_nothing}
-use Rattle.design.proofs.faults.fault.Goals as goal
+use Rattle.design.proofs.faults.check.Goals as goal
 
 pub returns-then-numbers-expected : goal.returns-then-numbers-expected
 returns-then-numbers-expected c = refuses_length c.args.numbers.now c.expected_length-expected.result c.expected_length-expected.ensures c.if-numbers-expected.true
