@@ -1,5 +1,6 @@
 -- The steps of laying out a node: the nodes that it names, then its own cells.
-use Rattle.std.proofs.Common.{◌≡◌, ℕ, ◌+◌, ◌<◌, Bool, true, false, ◌&&◌, ltb, ◌⊎◌, List, length, get_or, set, IfSome, Some, None, Option, sym, refl, ap, ◌∙◌, inl, inr, ⊎_elim, arith, get_or-set_other, get_or-set_same}
+use Rattle.std.proofs.Common.{◌≡◌, ℕ, ◌+◌, ◌<◌, Bool, true, false, ◌&&◌, ltb, ◌⊎◌, List, length, get_or, set, is_some, IfSome, Some, None, Option, sym, refl, ap, ◌∙◌, inl, inr, ⊎_elim, arith, get_or-set_other, get_or-set_same}
+use Rattle.std.specs.Option.{unwrap_or}
 use Rattle.std.proofs.lemmas.Bool.{ltb-true, and_parts, cases_eq}
 use Rattle.design.specs.declared.node.Node.{Node}
 use Rattle.design.specs.declared.node.Node.TheVariants.{Input, Register, Constant, And, Or, Xor, Not, Add, Less, Equal, Mux, Slice, Concat}
@@ -148,28 +149,28 @@ module _ (xs : List ℕ) (w : Work) (n : ℕ) (node : Node) (a : LayAsks xs w (S
         }
 
         -- the node's cells are added, and its nets are noted
-        module _ (w₄ : Work) (bus : Bus) (b : BuildGives xs w₃ w₄ n node bus) (many_buses : n < length w₄.buses) (many_laid : n < length w₄.laid) where
+        module _ (w₄ : Work) (bus : Bus) (b : BuildGives xs w₃ w₄ n node bus) (many : n < length w₄.buses) where
           after : Work
-          after = record { cells = w₄.cells; count = w₄.count; laid = set w₄.laid n true; buses = set w₄.buses n bus; outputs = w₄.outputs }
+          after = record { cells = w₄.cells; count = w₄.count; buses = set w₄.buses n (Some bus); outputs = w₄.outputs }
 
           still_laid : (m : ℕ) → is_laid w₃ m ≡ true → is_laid after m ≡ true
           unfolding after
           still_laid m h = ⊎_elim
-              (λ (q : m ≡ n). rw q (get_or-set_same w₄.laid n true false many_laid))
-              (λ (q : m ≡ n → ⊥). get_or-set_other w₄.laid n m true false q ∙ ap (λ l. get_or l m false) b.notes.laid ∙ h)
+              (λ (q : m ≡ n). rw q (ap (λ (o : Option Bus). is_some o) (get_or-set_same w₄.buses n (Some bus) None many)))
+              (λ (q : m ≡ n → ⊥). ap (λ (o : Option Bus). is_some o) (get_or-set_other w₄.buses n m (Some bus) None q ∙ ap (λ l. get_or l m None) b.notes.buses) ∙ h)
               (cases_eq m n)
 
           was_laid : (m : ℕ) → (m ≡ n → ⊥) → is_laid after m ≡ true → is_laid w₃ m ≡ true
           unfolding after
-          was_laid m q h = ap (λ l. get_or l m false) (sym b.notes.laid) ∙ sym (get_or-set_other w₄.laid n m true false q) ∙ h
+          was_laid m q h = sym (ap (λ (o : Option Bus). is_some o) (get_or-set_other w₄.buses n m (Some bus) None q ∙ ap (λ l. get_or l m None) b.notes.buses)) ∙ h
 
           nets_now : (m : ℕ) → (m ≡ n → ⊥) → nets_at after m ≡ nets_at w₃ m
           unfolding after
-          nets_now m q = ap (λ (x : Bus). net_of x) (get_or-set_other w₄.buses n m bus no_bus q ∙ ap (λ l. get_or l m no_bus) b.notes.buses)
+          nets_now m q = ap (λ (o : Option Bus). net_of (unwrap_or o no_bus)) (get_or-set_other w₄.buses n m (Some bus) None q ∙ ap (λ l. get_or l m None) b.notes.buses)
 
           nets_new : nets_at after n ≡ net_of bus
           unfolding after
-          nets_new = ap (λ (x : Bus). net_of x) (get_or-set_same w₄.buses n bus no_bus many_buses)
+          nets_new = ap (λ (o : Option Bus). net_of (unwrap_or o no_bus)) (get_or-set_same w₄.buses n (Some bus) None many)
 
           carried : (m : ℕ) → m < nodes_of xs → is_laid after m ≡ true → (m ≡ n) ⊎ (m ≡ n → ⊥) → CarriesWord (design_in xs) (cells_of after) after.count (nets_at after m) (expr_in xs m)
           unfolding after
@@ -178,7 +179,7 @@ module _ (xs : List ℕ) (w : Work) (n : ℕ) (node : Node) (a : LayAsks xs w (S
               rw q here
           carried m h l (inr q) = word_as (design_in xs) (cells_of w₄) w₄.count (nets_at w₃ m) (nets_at after m) (expr_in xs m) (nets_now m q) (grows_word (design_in xs) (cells_of w₃) (cells_of w₄) w₃.count w₄.count (nets_at w₃ m) (expr_in xs m) b.laid.grows (g₃.built.buses m h (was_laid m q l)))
 
-          pub noted : LayGives xs w (record { cells = w₄.cells; count = w₄.count; laid = set w₄.laid n true; buses = set w₄.buses n bus; outputs = w₄.outputs }) (Some n)
+          pub noted : LayGives xs w (record { cells = w₄.cells; count = w₄.count; buses = set w₄.buses n (Some bus); outputs = w₄.outputs }) (Some n)
           unfolding after
           noted = record {
             built = record { low = omega (arith, g₃.built.low, b.laid.grows.extends.more); buses = λ m h l. carried m h l (cases_eq m n) };
@@ -186,7 +187,7 @@ module _ (xs : List ℕ) (w : Work) (n : ℕ) (node : Node) (a : LayAsks xs w (S
                 (grows_trans (design_in xs) (cells_of w₁) (cells_of w₂) (cells_of w₄) w₁.count w₂.count w₄.count g₂.grows
                 (grows_trans (design_in xs) (cells_of w₂) (cells_of w₃) (cells_of w₄) w₂.count w₃.count w₄.count g₃.grows b.laid.grows));
             kept = λ m h. still_laid m (g₃.kept m (g₂.kept m (g₁.kept m h)));
-            laid = get_or-set_same w₄.laid n true false many_laid;
+            laid = ap (λ (o : Option Bus). is_some o) (get_or-set_same w₄.buses n (Some bus) None many);
             few = omega (arith, all, g₁.few, g₂.few, g₃.few, b.few);
             outputs = b.notes.outputs ∙ g₃.outputs ∙ g₂.outputs ∙ g₁.outputs;
           }
@@ -226,9 +227,9 @@ module _ (xs : List ℕ) (w : Work) (o : Option ℕ) (n : ℕ) (node : Node) (op
         pub build_call : BuildAsks xs w₃ n node
         build_call = build_asks xs w n node asked is_node w₁ laid₁ w₂ laid₂ w₃ laid₃
 
-        pub done : (w₄ w₅ : Work) (bus : Bus) → BuildGives xs w₃ w₄ n node bus → (length w₄.buses ≡ 1024) × (length w₄.laid ≡ 1024) →
-            w₅ ≡ record { cells = w₄.cells; count = w₄.count; laid = set w₄.laid n true; buses = set w₄.buses n bus; outputs = w₄.outputs } → LayGives xs w w₅ o
-        done w₄ w₅ bus b long e₅ = rw (e₅, some) (noted xs w n node asked is_node w₁ laid₁ w₂ laid₂ w₃ laid₃ w₄ bus b (omega (arith, within, long.0)) (omega (arith, within, long.1)))
+        pub done : (w₄ w₅ : Work) (bus : Bus) → BuildGives xs w₃ w₄ n node bus → length w₄.buses ≡ 1024 →
+            w₅ ≡ record { cells = w₄.cells; count = w₄.count; buses = set w₄.buses n (Some bus); outputs = w₄.outputs } → LayGives xs w w₅ o
+        done w₄ w₅ bus b long e₅ = rw (e₅, some) (noted xs w n node asked is_node w₁ laid₁ w₂ laid₂ w₃ laid₃ w₄ bus b (omega (arith, within, long)))
 
 pub known_call : (xs : List ℕ) (w : Work) (o : Option ℕ) (n : ℕ) → LayAsks xs w o → o ≡ Some n → is_laid w n ≡ true → LayGives xs w w o
 known_call xs w o n a some l = gives_same xs w o a (rw some l)

@@ -13,8 +13,8 @@ use Rattle.netlist.specs.declared.parts.Net.TheVariants.{Input as InputNet}
 use Rattle.netlist.specs.declared.bus.Bus.{Bus}
 use Rattle.netlist.specs.declared.work.Work.{Work}
 use Rattle.netlist.specs.Building.{register_bits, CarriesWord, Laid, gate_row, chain_row, constant_row}
-use Rattle.netlist.specs.Rows.{no_bus, net_of}
-use Rattle.netlist.specs.Works.{cells_of, nets_at, is_laid, zeros, SameNotes, RowLaid, RowAsks, Compared, Summed}
+use Rattle.netlist.specs.Rows.{net_of}
+use Rattle.netlist.specs.Works.{cells_of, bus_at, nets_at, is_laid, zeros, SameNotes, RowLaid, RowAsks, Compared, Summed}
 use Rattle.netlist.specs.Lowerings.{expr_in, own_cells, BuildAsks, BuildGives}
 use Rattle.netlist.proofs.Steps.{RowNets, same_width, choice_width, slice_width, concat_width, constant_laid, not_laid, and_laid, or_laid, xor_laid, mux_laid, less_laid, equal_laid, add_laid, slice_laid, concat_laid, input_laid, register_laid}
 use Rattle.netlist.proofs.Widths.{Range, range_from, input_range, register_range, width_range}
@@ -267,7 +267,7 @@ module _ (xs : List ℕ) (w : Work) (n : ℕ) where
 
   -- forms that take no cell
   module _ (bus : Bus) where
-    pub slice_built : (l v a : ℕ) (x : Bus) (k : BuildAsks xs w n (Slice l v a)) → x ≡ get_or w.buses a no_bus → ((j : ℕ) → j < 64 → net_of bus j ≡ net_of x (l + j)) → BuildGives xs w w n (Slice l v a) bus
+    pub slice_built : (l v a : ℕ) (x : Bus) (k : BuildAsks xs w n (Slice l v a)) → x ≡ bus_at w a → ((j : ℕ) → j < 64 → net_of bus j ≡ net_of x (l + j)) → BuildGives xs w w n (Slice l v a) bus
     unfolding expr_of own_cells
     slice_built l v a x k ex nets =
         let o = slice_part l v a k in
@@ -276,7 +276,7 @@ module _ (xs : List ℕ) (w : Work) (n : ℕ) where
         (λ j h. nets j (omega (arith, o.within, o.a_ok.range.high)) ∙ ap (λ (b : Bus). net_of b (l + j)) ex))
         refl (omega arith) (same_notes w)
 
-    pub concat_built : (a b m : ℕ) (x y : Bus) (k : BuildAsks xs w n (Concat a b)) → m ≡ width (design_in xs) (expr_in xs b) → x ≡ get_or w.buses a no_bus → y ≡ get_or w.buses b no_bus →
+    pub concat_built : (a b m : ℕ) (x y : Bus) (k : BuildAsks xs w n (Concat a b)) → m ≡ width (design_in xs) (expr_in xs b) → x ≡ bus_at w a → y ≡ bus_at w b →
         ((j : ℕ) → j < 64 → net_of bus j ≡ cond (ltb j m) (net_of y j) (net_of x (j - m))) → BuildGives xs w w n (Concat a b) bus
     unfolding expr_of own_cells
     concat_built a b m x y k is ex ey nets =

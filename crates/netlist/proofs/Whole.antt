@@ -1,5 +1,5 @@
 -- The registers and outputs of a design in numbers, and the whole netlist.
-use Rattle.std.proofs.Common.{◌≡◌, ℕ, ◌+◌, ◌<◌, ◌≤◌, min, true, false, ltb, List, get_or, Some, None, sym, refl, ap, ◌∙◌, arith}
+use Rattle.std.proofs.Common.{◌≡◌, ℕ, ◌+◌, ◌<◌, ◌≤◌, min, true, false, ltb, List, get_or, is_some, Some, None, sym, refl, ap, ◌∙◌, arith}
 use Rattle.std.proofs.lemmas.Bool.{and_parts, eqb-true, lt-ltb, le-ltb, both_ways}
 use Rattle.design.specs.declared.refusal.Refusal.{Refusal}
 use Rattle.design.specs.declared.refusal.Refusal.TheVariants.{Cells, NetTracks}
@@ -12,8 +12,8 @@ use Rattle.netlist.specs.declared.bus.Bus.{Bus}
 use Rattle.netlist.specs.declared.work.Work.{Work}
 use Rattle.netlist.specs.declared.netlists.Netlist.{Netlist as NetlistT}
 use Rattle.netlist.specs.Building.{cell_at, register_bits, CarriesWord, Extends, Laid, gate_row, register_row, RegistersAt, OutputsAt, registers_most, outputs_most, Lowering}
-use Rattle.netlist.specs.Rows.{no_bus, net_of}
-use Rattle.netlist.specs.Works.{cells_of, nets_at, is_laid, outs_of, zeros, Wrote, RowLaid, RowAsks}
+use Rattle.netlist.specs.Rows.{net_of}
+use Rattle.netlist.specs.Works.{cells_of, bus_at, nets_at, is_laid, outs_of, zeros, Wrote, RowLaid, RowAsks}
 use Rattle.netlist.specs.Lowerings.{expr_in, Lowerable, Built, LayAsks, LayGives, RegistersIn, OutputsIn, netlist_of, words_refusal}
 use Rattle.netlist.proofs.Growing.{carries_more}
 use Rattle.netlist.proofs.Roots.{registers_begin, registers_step, outputs_begin, outputs_step}
@@ -23,11 +23,11 @@ use Rattle.netlist.proofs.Widths.{Range, width_range}
 
 -- nodes that are laid out stay so while cells are added or registers written, and nothing is noted
 built_more : (xs : List ℕ) (w w₁ : Work) → Extends (register_bits (design_in xs)) (cells_of w) w.count (cells_of w₁) w₁.count →
-    w₁.laid ≡ w.laid → w₁.buses ≡ w.buses → Built xs w → Built xs w₁
-built_more xs w w₁ ext el eb b = record {
+    w₁.buses ≡ w.buses → Built xs w → Built xs w₁
+built_more xs w w₁ ext eb b = record {
   low = omega (arith, b.low, ext.more);
   buses = λ m h l.
-      let was : is_laid w m ≡ true = ap (λ ls. get_or ls m false) (sym el) ∙ l in
+      let was : is_laid w m ≡ true = ap (λ bs. is_some (get_or bs m None)) (sym eb) ∙ l in
       let c = b.buses m h was in
       λ k u. rw eb (carries_more (design_in xs) (cells_of w) (cells_of w₁) w.count w₁.count (nets_at w m k) _ ext (c k u));
 }
@@ -77,7 +77,7 @@ module _ (xs : List ℕ) (ok : Lowerable xs) where
 
   -- a register's next word is laid out, and its cells are written
   module _ (w w₁ w₂ : Work) (r m v : ℕ) (x : Bus) (there : r < registers_of xs) (a : RegistersIn xs w r) (g : LayGives xs w w₁ (Some (register_node xs r)))
-      (em : m ≡ (design_in xs).register_width r) (ex : x ≡ get_or w₁.buses (register_node xs r) no_bus) (ev : word v ≡ (design_in xs).initial r)
+      (em : m ≡ (design_in xs).register_width r) (ex : x ≡ bus_at w₁ (register_node xs r)) (ev : word v ≡ (design_in xs).initial r)
       (wr : Wrote w₁ w₂ (total r (design_in xs).register_width) m (register_row (net_of x) (word v))) where
     next_laid : Laid (design_in xs) (cells_of w) w.count (cells_of w₁) w₁.count (net_of x) ((design_in xs).next r)
     unfolding design_in
@@ -97,16 +97,16 @@ module _ (xs : List ℕ) (ok : Lowerable xs) where
     register_done : RegistersIn xs w₂ (r + 1)
     unfolding design_in
     register_done = record {
-      built = built_more xs w₁ w₂ gates_stay wr.notes.laid wr.notes.buses g.built;
+      built = built_more xs w₁ w₂ gates_stay wr.notes.buses g.built;
       at = rw wr.count at_step;
       few = omega (arith, a.few, g.few, wr.count, total_more r (λ i. cells (design_in xs) ((design_in xs).next i)));
     }
 
   pub register_step : (w w₁ w₂ : Work) (r n start m v : ℕ) (x : Bus) → r < registers_of xs → n ≡ register_node xs r → RegistersIn xs w r → LayGives xs w w₁ (Some n) →
-      start ≡ total r (design_in xs).register_width → m ≡ (design_in xs).register_width r → x ≡ get_or w₁.buses n no_bus → word v ≡ (design_in xs).initial r →
+      start ≡ total r (design_in xs).register_width → m ≡ (design_in xs).register_width r → x ≡ bus_at w₁ n → word v ≡ (design_in xs).initial r →
       Wrote w₁ w₂ start m (register_row (net_of x) (word v)) → RegistersIn xs w₂ (r + 1)
   register_step w w₁ w₂ r n start m v x h e a g es em ex ev wr =
-      register_done w w₁ w₂ r m v x h a (rw e at g) em (ex ∙ ap (λ k. get_or w₁.buses k no_bus) e) ev (rw es at wr)
+      register_done w w₁ w₂ r m v x h a (rw e at g) em (ex ∙ ap (λ k. bus_at w₁ k) e) ev (rw es at wr)
 
   -- 2. Outputs.
 
@@ -166,7 +166,7 @@ module _ (xs : List ℕ) (ok : Lowerable xs) where
 
     -- it is passed on to cells of its own, which are noted
     module _ (w₂ w₃ : Work) (bus : Bus) (start : ℕ) (es : start ≡ total o (output_width (design_in xs))) (r : RowLaid w₁ w₂ m (gate_row 2 (nets_at w₁ n) zeros zeros) bus)
-        (ec : w₃.cells ≡ w₂.cells) (en : w₃.count ≡ w₂.count) (el : w₃.laid ≡ w₂.laid) (eb : w₃.buses ≡ w₂.buses)
+        (ec : w₃.cells ≡ w₂.cells) (en : w₃.count ≡ w₂.count) (eb : w₃.buses ≡ w₂.buses)
         (old : (k : ℕ) → k < start → outs_of w₃ k ≡ outs_of w₂ k) (new : (k : ℕ) → k < m → outs_of w₃ (start + k) ≡ w₁.count + k) where
       output_laid : Laid (design_in xs) (cells_of w) w.count (cells_of w₁) w₁.count (nets_at w₁ n) ((design_in xs).output o)
       unfolding design_in
@@ -194,7 +194,7 @@ module _ (xs : List ℕ) (ok : Lowerable xs) where
       pub output_step : OutputsIn xs w₃ (o + 1)
       unfolding output_cells design_in
       output_step = record {
-        built = built_more xs w₁ w₃ grown (el ∙ r.notes.laid) (eb ∙ r.notes.buses) g.built;
+        built = built_more xs w₁ w₃ grown (eb ∙ r.notes.buses) g.built;
         at = rw (ec, en, r.count, em) at_output;
         few = let f : w₁.count ≤ w.count + cells (design_in xs) ((design_in xs).output o) = rw e at g.few in
             omega (arith, a.few, en, r.count, em, total_more o (output_cells (design_in xs)));

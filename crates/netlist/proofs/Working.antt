@@ -7,14 +7,14 @@ use Rattle.netlist.specs.declared.parts.Cell.{Cell as CellT}
 use Rattle.netlist.specs.declared.bus.Bus.{Bus}
 use Rattle.netlist.specs.declared.work.Work.{Work}
 use Rattle.netlist.specs.Building.{blank, gate, gate_row, chain_row}
-use Rattle.netlist.specs.Rows.{no_bus, net_of}
-use Rattle.netlist.specs.Works.{cells_of, nets_at, SameNotes, Wrote, RowLaid, Compared, Summed}
+use Rattle.netlist.specs.Rows.{net_of}
+use Rattle.netlist.specs.Works.{cells_of, bus_at, nets_at, SameNotes, Wrote, RowLaid, Compared, Summed}
 
 pub same_notes : (w : Work) → SameNotes w w
-same_notes w = record { buses = refl; laid = refl; outputs = refl }
+same_notes w = record { buses = refl; outputs = refl }
 
 pub notes_trans : (w w₁ w₂ : Work) → SameNotes w w₁ → SameNotes w₁ w₂ → SameNotes w w₂
-notes_trans w w₁ w₂ a b = record { buses = b.buses ∙ a.buses; laid = b.laid ∙ a.laid; outputs = b.outputs ∙ a.outputs }
+notes_trans w w₁ w₂ a b = record { buses = b.buses ∙ a.buses; outputs = b.outputs ∙ a.outputs }
 
 pub wrote_none : (w : Work) (at : ℕ) (new : ℕ → CellT) → Wrote w w at 0 new
 wrote_none w at new = record {
@@ -24,7 +24,7 @@ wrote_none w at new = record {
 }
 
 pub wrote_more : (w w₁ : Work) (at k : ℕ) (new : ℕ → CellT) (cell : CellT) → at + k < length w₁.cells → Wrote w w₁ at k new → cell ≡ new k →
-    Wrote w (record { cells = set w₁.cells (at + k) cell; count = w₁.count; laid = w₁.laid; buses = w₁.buses; outputs = w₁.outputs }) at (k + 1) new
+    Wrote w (record { cells = set w₁.cells (at + k) cell; count = w₁.count; buses = w₁.buses; outputs = w₁.outputs }) at (k + 1) new
 wrote_more w w₁ at k new cell room a is = record {
   cells = record {
     below = λ c h. let ne : c ≢ at + k = omega arith in get_or-set_other w₁.cells (at + k) c cell blank ne ∙ a.cells.below c h;
@@ -35,12 +35,12 @@ wrote_more w w₁ at k new cell room a is = record {
         (cases_eq j k);
   };
   count = a.count;
-  notes = record { buses = a.notes.buses; laid = a.notes.laid; outputs = a.notes.outputs };
+  notes = record { buses = a.notes.buses; outputs = a.notes.outputs };
 }
 
 -- a row that is written behind the last cell is added
 pub pushed : (w w₁ w₂ : Work) (start m : ℕ) (new : ℕ → ℕ → CellT) (bus : Bus) → start ≡ w.count → w.count + m ≤ 1024 → Wrote w w₁ start m (new start) →
-    w₂ ≡ record { cells = w₁.cells; count = w₁.count + m; laid = w₁.laid; buses = w₁.buses; outputs = w₁.outputs } →
+    w₂ ≡ record { cells = w₁.cells; count = w₁.count + m; buses = w₁.buses; outputs = w₁.outputs } →
     ((k : ℕ) → k < 64 → net_of bus k ≡ Cell (min 65535 (start + k))) → RowLaid w w₂ m (new w.count) bus
 pushed w w₁ w₂ start m new bus e room wr e₂ nets = rw e₂ (record {
   cells = record {
@@ -49,7 +49,7 @@ pushed w w₁ w₂ start m new bus e room wr e₂ nets = rw e₂ (record {
   };
   count = ap (λ c. c + m) wr.count;
   nets = λ k h. nets k h ∙ ap Cell (let q : min 65535 (start + k) ≡ w.count + k = omega arith in q);
-  notes = record { buses = wr.notes.buses; laid = wr.notes.laid; outputs = wr.notes.outputs };
+  notes = record { buses = wr.notes.buses; outputs = wr.notes.outputs };
 })
 
 -- the same row by another name
@@ -95,7 +95,7 @@ handed_high none carries into is k h =
 pub summed : (w w₁ w₂ : Work) (a b m : ℕ) (x y none carries into bus : Bus) → m ≤ 64 →
     RowLaid w w₁ m (chain_row 232 232 (nets_at w a) (nets_at w b) w.count) carries →
     ((k : ℕ) → k < 64 → net_of none k ≡ Zero) → ((k : ℕ) → k < 64 → net_of into k ≡ cond (ltb k 1) (net_of none k) (net_of carries (k - 1))) →
-    x ≡ get_or w₁.buses a no_bus → y ≡ get_or w₁.buses b no_bus →
+    x ≡ bus_at w₁ a → y ≡ bus_at w₁ b →
     RowLaid w₁ w₂ m (gate_row 150 (net_of x) (net_of y) (net_of into)) bus → Summed w w₂ a b m bus
 summed w w₁ w₂ a b m x y none carries into bus narrow r z is ex ey s =
     let bx : (k : ℕ) → net_of x k ≡ nets_at w a k = λ k. rw (ex, r.notes.buses) refl in

@@ -1,6 +1,6 @@
 -- What the code's buses, wires and rows stand for.
 -- Only proofs use these definitions: no promise to a user names them.
-use Rattle.std.specs.Prelude.{ℕ, ◌+◌, ◌-◌, min, cond, [], nat_lt, slice_index_or}
+use Rattle.std.specs.Prelude.{ℕ, ◌+◌, ◌-◌, min, cond, nat_lt, replicate, slice_index_or}
 use Rattle.design.specs.Designs.{word}
 use Rattle.netlist.specs.declared.parts.Net.{Net}
 use Rattle.netlist.specs.declared.parts.Net.TheVariants.{Zero, Input, Cell}
@@ -12,8 +12,9 @@ use Rattle.netlist.specs.declared.row.Row.{Row}
 use Rattle.netlist.specs.declared.row.Row.TheVariants.{Gates, Chain, Constant, Register}
 use Rattle.netlist.specs.Building.{gate_row, chain_row, constant_row, register_row}
 
+-- no net at any bit
 abbrev pub no_bus : Bus
-no_bus = record { nets = [] }
+no_bus = record { nets = replicate 64 Zero }
 
 abbrev pub net_of : Bus → ℕ → Net
 net_of b k = slice_index_or b.nets k Zero

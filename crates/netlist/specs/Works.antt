@@ -1,6 +1,7 @@
 -- A netlist under construction, as the code holds it.
 -- Only proofs use these definitions: no promise to a user names them.
-use Rattle.std.specs.Prelude.{◌≡◌, ℕ, ◌+◌, ◌-◌, ◌<◌, ◌≤◌, Bool, false, slice_index, slice_index_or}
+use Rattle.std.specs.Prelude.{◌≡◌, ℕ, ◌+◌, ◌-◌, ◌<◌, ◌≤◌, Bool, is_some, None, Option, slice_index, slice_index_or}
+use Rattle.std.specs.Option.{unwrap_or}
 use Rattle.netlist.specs.declared.parts.Net.{Net}
 use Rattle.netlist.specs.declared.parts.Net.TheVariants.{Zero, Cell}
 use Rattle.netlist.specs.declared.parts.Cell.{Cell as CellT}
@@ -12,12 +13,18 @@ use Rattle.netlist.specs.Rows.{no_bus, net_of}
 abbrev pub cells_of : Work → Cells
 cells_of w = cell_at w.cells
 
--- the nets of a node that is laid out
-abbrev pub nets_at : Work → ℕ → ℕ → Net
-nets_at w n = net_of (slice_index_or w.buses n no_bus)
+-- what is noted of a node: its nets, if it is laid out
+abbrev pub noted : Work → ℕ → Option Bus
+noted w n = slice_index_or w.buses n None
 
 abbrev pub is_laid : Work → ℕ → Bool
-is_laid w n = slice_index_or w.laid n false
+is_laid w n = is_some (noted w n)
+
+abbrev pub bus_at : Work → ℕ → Bus
+bus_at w n = unwrap_or (noted w n) no_bus
+
+abbrev pub nets_at : Work → ℕ → ℕ → Net
+nets_at w n = net_of (bus_at w n)
 
 abbrev pub outs_of : Work → ℕ → ℕ
 outs_of w m = slice_index w.outputs m
@@ -28,7 +35,6 @@ zeros k = Zero
 -- what is noted of nodes and outputs is as it was
 pub record SameNotes (w w₁ : Work) : Type 0 where
   pub buses : w₁.buses ≡ w.buses
-  pub laid : w₁.laid ≡ w.laid
   pub outputs : w₁.outputs ≡ w.outputs
 
 -- so many cells from some place on are written, and nothing else changes

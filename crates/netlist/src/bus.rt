@@ -1,7 +1,6 @@
 // The nets of a word.
-ghost use Rattle.std.specs.Prelude.{◌≡◌, ℕ, ◌<◌, length, slice_index_or};
-ghost use Rattle.netlist.specs.declared.parts.Net.TheVariants.{Zero};
-ghost use Rattle.netlist.specs.Rows.{net_of, wire};
+ghost use Rattle.std.specs.Prelude.{◌≡◌, ℕ, ◌<◌};
+ghost use Rattle.netlist.specs.Rows.{no_bus, net_of, wire};
 
 use crate::parts::Net;
 
@@ -26,20 +25,21 @@ pub(crate) enum Wires {
 }
 
 impl Bus {
+    // No net at any bit: the number 0.
+    pub(crate) fn zero() -> Bus
+        ensures { result ≡ no_bus }
+    {
+        Bus {
+            nets: [Net::Zero; 64],
+        }
+    }
+
     // The net of bit k; past the last, `Zero`.
     pub(crate) fn net(self, k: usize) -> Net
         ensures { result ≡ net_of self k }
     {
         if k < 64 { self.nets[k] } else { Net::Zero }
     }
-}
-
-// Nets that are all `Zero`.
-pub(crate) fn no_nets<const N: usize>() -> [Net; N]
-    ensures len { length result ≡ N }
-    ensures zero { (k : ℕ) → slice_index_or result k Zero ≡ Zero }
-{
-    [Net::Zero; N]
 }
 
 impl Wires {
@@ -66,7 +66,7 @@ impl Wires {
     pub(crate) fn bus(self) -> Bus
         ensures { (k : ℕ) → k < 64 → net_of result k ≡ wire self k }
     {
-        let mut nets = no_nets::<64>();
+        let mut nets = [Net::Zero; 64];
         for k in 0..64u16 {
             nets[k as usize] = self.net(k);
         }

@@ -1,38 +1,19 @@
 // A netlist under construction.
-ghost use Rattle.std.specs.Prelude.{◌≡◌, ℕ, ◌+◌, ◌<◌, ◌≤◌, true, false, length, slice_index_or, slice_set};
-ghost use Rattle.netlist.specs.Rows.{no_bus, row_cell};
-ghost use Rattle.netlist.specs.Works.{is_laid, outs_of, Wrote, RowLaid};
+ghost use Rattle.std.specs.Prelude.{◌≡◌, ℕ, ◌+◌, ◌<◌, ◌≤◌, false, length, Some, slice_set};
+ghost use Rattle.netlist.specs.Rows.{row_cell};
+ghost use Rattle.netlist.specs.Works.{is_laid, bus_at, outs_of, Wrote, RowLaid};
 
-use crate::bus::{Bus, Wires, no_nets};
+use crate::bus::{Bus, Wires};
 use crate::parts::Cell;
 use crate::row::Row;
 
-// The cells so far, registers first; of each node whether it is laid out, and its nets; the cells of the output bits so far.
+// The cells so far, registers first; the nets of each node that is laid out; the cells of the output bits so far.
 #[derive(Drop)]
 pub(crate) struct Work {
     pub cells: [Cell; 1024],
     pub count: usize,
-    pub laid: [bool; 1024],
-    pub buses: [Bus; 1024],
+    pub buses: [Option<Bus>; 1024],
     pub outputs: [u16; 1024],
-}
-
-fn blank_cells<const N: usize>() -> [Cell; N] {
-    [Cell::blank(); N]
-}
-
-fn blank_buses<const N: usize>() -> [Bus; N] {
-    [Bus { nets: no_nets() }; N]
-}
-
-fn no_flags<const N: usize>() -> [bool; N]
-    ensures { (k : ℕ) → slice_index_or result k false ≡ false }
-{
-    [false; N]
-}
-
-fn no_numbers<const N: usize>() -> [u16; N] {
-    [0; N]
 }
 
 impl Work {
@@ -42,11 +23,10 @@ impl Work {
         ensures none { (k : ℕ) → is_laid result k ≡ false }
     {
         Work {
-            cells: blank_cells(),
+            cells: [Cell::blank(); 1024],
             count: register_bits,
-            laid: no_flags(),
-            buses: blank_buses(),
-            outputs: no_numbers(),
+            buses: [None; 1024],
+            outputs: [0; 1024],
         }
     }
 
@@ -55,31 +35,29 @@ impl Work {
         requires { n < 1024 }
         ensures { result ≡ is_laid self.now n }
     {
-        self.laid[n as usize]
+        self.buses[n as usize].is_some()
     }
 
-    // The nets of node n.
+    // The nets of node n, which is laid out.
     pub(crate) fn bus(&self, n: u16) -> Bus
         requires { n < 1024 }
-        ensures { result ≡ slice_index_or self.now.buses n no_bus }
+        ensures { result ≡ bus_at self.now n }
     {
-        self.buses[n as usize]
+        self.buses[n as usize].unwrap_or(Bus::zero())
     }
 
     // Node n is laid out, and these are its nets.
     pub(crate) fn note(&mut self, n: u16, bus: Bus)
         requires { n < 1024 }
-        ensures room { (length self.old.buses ≡ 1024) × (length self.old.laid ≡ 1024) }
+        ensures room { length self.old.buses ≡ 1024 }
         ensures after { self.new ≡ record {
           cells = self.old.cells;
           count = self.old.count;
-          laid = slice_set self.old.laid n true;
-          buses = slice_set self.old.buses n bus;
+          buses = slice_set self.old.buses n (Some bus);
           outputs = self.old.outputs;
         } }
     {
-        self.laid[n as usize] = true;
-        self.buses[n as usize] = bus;
+        self.buses[n as usize] = Some(bus);
     }
 
     // Writes a cell.
@@ -89,7 +67,6 @@ impl Work {
         ensures after { self.new ≡ record {
           cells = slice_set self.old.cells at cell;
           count = self.old.count;
-          laid = self.old.laid;
           buses = self.old.buses;
           outputs = self.old.outputs;
         } }
@@ -124,7 +101,6 @@ impl Work {
         requires cells { first + width ≤ 1024 }
         ensures cells { self.new.cells ≡ self.old.cells }
         ensures count { self.new.count ≡ self.old.count }
-        ensures laid { self.new.laid ≡ self.old.laid }
         ensures buses { self.new.buses ≡ self.old.buses }
         ensures old { (m : ℕ) → m < at → outs_of self.new m ≡ outs_of self.old m }
         ensures new { (k : ℕ) → k < width → outs_of self.new (at + k) ≡ first + k }

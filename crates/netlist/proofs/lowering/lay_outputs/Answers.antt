@@ -46,7 +46,7 @@ loop-o-preserved c =
     let m = output_wide _ c.requires.lowerable _ _ _ h c.output-node.ensures.node c.width-width.ensures in
     let s = c.show.ensures in (
       output_step _ c.requires.lowerable _ _ _ _ _ h c.output-node.ensures.node c.loop-o.invariant.0 c.lay.ensures m _ _ _ _ c.loop-o.invariant.1 c.unary.ensures
-          s.cells s.count s.laid s.buses s.old s.new,
+          s.cells s.count s.buses s.old s.new,
       omega (arith, c.loop-o.invariant.1, m, total_more c.loop-o.o (output_width (design_in c.args.analysis.now.design.numbers.now))),
     )
 

@@ -4,7 +4,7 @@ use Rattle.netlist.specs.Works.{outs_of}
 use Rattle.netlist.proofs.work.Work.show.Goals as goal
 
 pub loop-k-init : goal.loop-k-init
-loop-k-init c = (search rules, refl, refl, refl, refl, λ m h. refl, λ j h. absurd (omega arith))
+loop-k-init c = (search rules, refl, refl, refl, λ m h. refl, λ j h. absurd (omega arith))
 
 pub loop-k-preserved : goal.loop-k-preserved
 loop-k-preserved c =
@@ -13,10 +13,9 @@ loop-k-preserved c =
       i.1,
       i.2,
       i.3,
-      i.4,
-      λ m h. let ne : m ≢ c.args.at + c.loop-k.k = omega arith in get_or-set_other c.loop-k.self.outputs _ m _ 0 ne ∙ i.5 m h,
+      λ m h. let ne : m ≢ c.args.at + c.loop-k.k = omega arith in get_or-set_other c.loop-k.self.outputs _ m _ 0 ne ∙ i.4 m h,
       below_more _ _
-          (λ j h. let ne : c.args.at + j ≢ c.args.at + c.loop-k.k = omega arith in get_or-set_other c.loop-k.self.outputs _ (c.args.at + j) _ 0 ne ∙ i.6 j h)
+          (λ j h. let ne : c.args.at + j ≢ c.args.at + c.loop-k.k = omega arith in get_or-set_other c.loop-k.self.outputs _ (c.args.at + j) _ 0 ne ∙ i.5 j h)
           (get_or-set_same c.loop-k.self.outputs _ _ 0 (omega (arith, i.0))),
     )
 
@@ -24,5 +23,5 @@ pub returns : goal.returns
 returns c =
     let i = c.loop-k.invariant in
     let e : c.loop-k.k ≡ c.args.width = omega arith in
-    let all : (k : ℕ) → k < c.args.width → outs_of c.loop-k.self (c.args.at + k) ≡ c.args.first + k = λ k h. i.6 k (omega arith) in
-    record { cells = i.1; count = i.2; laid = i.3; buses = i.4; old = i.5; new = all }
+    let all : (k : ℕ) → k < c.args.width → outs_of c.loop-k.self (c.args.at + k) ≡ c.args.first + k = λ k h. i.5 k (omega arith) in
+    record { cells = i.1; count = i.2; buses = i.3; old = i.4; new = all }
