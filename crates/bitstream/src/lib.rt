@@ -14,6 +14,7 @@ mod writing;
 use crate::planning::{plan, plan_words};
 use crate::plans::Plan;
 use design::refusal::Refusal;
+use fabric::size::Size;
 
 // What `put` answers. It stays an enum of its own, and no `Result`, since C reads it.
 #[derive(Clone, Copy)]
@@ -36,7 +37,12 @@ pub fn put(
 ) -> Made
     ensures { PutSays (record { columns = across; rows = down; tracks = tracks }) design.now room.old pins.old result room.new pins.new }
 {
-    let planned = plan(across, down, tracks, design, room, pins);
+    let size = Size {
+        columns: across,
+        rows: down,
+        tracks,
+    };
+    let planned = plan(size, design, room, pins);
     carry_out(planned, room, pins)
 }
 
@@ -51,7 +57,12 @@ pub fn put_words(
 ) -> Made
     ensures { PutWordsSays (record { columns = across; rows = down; tracks = tracks }) design.now room.old pins.old result room.new pins.new }
 {
-    let planned = plan_words(across, down, tracks, design, room, pins);
+    let size = Size {
+        columns: across,
+        rows: down,
+        tracks,
+    };
+    let planned = plan_words(size, design, room, pins);
     carry_out(planned, room, pins)
 }
 

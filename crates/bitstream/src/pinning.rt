@@ -26,7 +26,7 @@ impl Plan {
     {
         for m in 0..self.pins {
             let pin = self.pin(m);
-            pins[3 * m..3 * m + 3].copy_from_slice(&[pin.cell, pin.side.number(), pin.track]);
+            pins[3 * m..3 * m + 3].copy_from_slice(&[pin.cell, u16::from(pin.side), pin.track]);
         }
     }
 }

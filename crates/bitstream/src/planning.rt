@@ -7,34 +7,32 @@ ghost use Rattle.bitstream.specs.Plans.{words_answer, put_answer, Accepts, Plans
 
 use crate::plans::{Plan, Request};
 use design::counts::Counts;
-use design::encoded::{Encoded, validate};
+use design::encoded::Encoded;
 use design::refusal::Refusal;
 use design::soundness::check;
 use fabric::grid::Grid;
+use fabric::size::Size;
 use netlist::landed::landed;
 use netlist::lowering::lower_words;
 use route::plain::Plain;
 
 // The request, or why it is none: refusals 1 to 6.
 fn accept<'a>(
-    across: u64,
-    down: u64,
-    tracks: u64,
+    size: Size,
     numbers: &'a [u16],
     room: &[u16],
     pins: &[u16],
 ) -> Result<Request<'a>, Refusal>
     ensures { MatchResult result
-        (λ r. (put_refusal (record { columns = across; rows = down; tracks = tracks }) numbers.now room.now pins.now ≡ None)
-        × Accepts (record { columns = across; rows = down; tracks = tracks }) numbers.now room.now pins.now r)
-        (λ f. put_refusal (record { columns = across; rows = down; tracks = tracks }) numbers.now room.now pins.now ≡ Some f) }
+        (λ r. (put_refusal size numbers.now room.now pins.now ≡ None)
+        × Accepts size numbers.now room.now pins.now r)
+        (λ f. put_refusal size numbers.now room.now pins.now ≡ Some f) }
 {
-    let grid = Grid::new(across, down, tracks)?;
-    validate(numbers)?;
+    let grid = Grid::try_from(size)?;
+    let design = Encoded::try_from(numbers)?;
     if room.len() != grid.room_len() {
         return Err(Refusal::RoomLength);
     }
-    let design = Encoded::new(numbers);
     let counts = check(design)?;
     let needed = counts.input_bits + counts.output_bits;
     if (pins.len() as u64) < 3 * needed {
@@ -101,32 +99,26 @@ impl Request<'_> {
 
 // What `put_words` is to write, or the first refusal that applies.
 pub(crate) fn plan_words(
-    across: u64,
-    down: u64,
-    tracks: u64,
+    size: Size,
     numbers: &[u16],
     room: &[u16],
     pins: &[u16],
 ) -> Result<Plan, Refusal>
-    ensures { PlanSays (words_answer (record { columns = across; rows = down; tracks = tracks }) numbers.now room.now pins.now)
-        (record { columns = across; rows = down; tracks = tracks }) numbers.now room.now pins.now result }
+    ensures { PlanSays (words_answer size numbers.now room.now pins.now) size numbers.now room.now pins.now result }
 {
-    accept(across, down, tracks, numbers, room, pins)?.lay_out()
+    accept(size, numbers, room, pins)?.lay_out()
 }
 
 // What `put` is to write, or the first refusal that applies.
 pub(crate) fn plan(
-    across: u64,
-    down: u64,
-    tracks: u64,
+    size: Size,
     numbers: &[u16],
     room: &[u16],
     pins: &[u16],
 ) -> Result<Plan, Refusal>
-    ensures { PlanSays (put_answer (record { columns = across; rows = down; tracks = tracks }) numbers.now room.now pins.now)
-        (record { columns = across; rows = down; tracks = tracks }) numbers.now room.now pins.now result }
+    ensures { PlanSays (put_answer size numbers.now room.now pins.now) size numbers.now room.now pins.now result }
 {
-    let request = accept(across, down, tracks, numbers, room, pins)?;
+    let request = accept(size, numbers, room, pins)?;
     let plan = request.lay_out()?;
     request.landed()?;
     Ok(plan)

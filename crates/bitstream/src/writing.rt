@@ -16,12 +16,12 @@ impl Plan {
         let cell = self.netlist.cell(at as usize);
         match j {
             0..16 => (cell.table >> j) % 2,
-            16..20 => routing.source(at, cell.inputs[j - 16]).number(),
+            16..20 => u16::from(routing.source(at, cell.inputs[j - 16])),
             20 => u16::from(cell.holds),
             21 => u16::from(cell.initial),
             _ => {
                 let track = ((j - 22) % routing.grid.tracks) as u16;
-                routing.source(at, routing.carried(track)).number()
+                u16::from(routing.source(at, routing.carried(track)))
             }
         }
     }
