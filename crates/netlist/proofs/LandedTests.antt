@@ -59,9 +59,9 @@ any_by test n m true e h =
     fails_at test n h.0 (first_failing test n) refl (omega arith) here
 any_by test n m false e h =
     let all : (k : ℕ) → k < n → test k ≡ true = λ k l.
-        let below : k < m = omega arith in
-        let at : test (get_or (range_with_len 0 m) k 0) ≡ true = h k 0 (omega arith) (omega (arith, length-range_with_len 0 m)) in
-        ap test (sym (number m k below)) ∙ at in
+    let below : k < m = omega arith in
+    let at : test (get_or (range_with_len 0 m) k 0) ≡ true = h k 0 (omega arith) (omega (arith, length-range_with_len 0 m)) in
+    ap test (sym (number m k below)) ∙ at in
     rw (none_first test n all) refl
 
 -- the answers of `landed`

@@ -7,6 +7,7 @@ pub mod Roots
 pub mod Finished
 pub mod General
 pub mod Working
+pub mod Buses
 pub mod Nodes
 pub mod Laying
 pub mod Whole

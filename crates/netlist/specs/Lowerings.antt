@@ -11,8 +11,6 @@ use Rattle.design.specs.Designs.{Expr, Design, Sound, width, well_formed, cells,
 use Rattle.design.specs.Numbers.{nodes_of, node_in, expr_at, design_in, reading_refusal, soundness_refusal}
 use Rattle.netlist.specs.declared.bus.Bus.{Bus}
 use Rattle.netlist.specs.declared.operands.Operands.{Operands}
-use Rattle.netlist.specs.declared.starts.Part.{Part}
-use Rattle.netlist.specs.declared.starts.Part.TheVariants.{Inputs, Registers}
 use Rattle.netlist.specs.declared.work.Work.{Work}
 use Rattle.netlist.specs.declared.netlists.Netlist.{Netlist as NetlistT}
 use Rattle.netlist.specs.Netlists.{Netlist}
@@ -24,11 +22,6 @@ use Rattle.netlist.specs.Works.{cells_of, nets_at, is_laid, outs_of, SameNotes}
 -- the expressions of the nodes
 abbrev pub expr_in : List ℕ → ℕ → Expr
 expr_in xs n = expr_at xs (nodes_of xs) n
-
--- the widths of the inputs, or of the registers
-abbrev pub widths : Design → Part → ℕ → ℕ
-widths d Inputs = d.input_width
-widths d Registers = d.register_width
 
 -- the nodes that a node names
 abbrev pub operands_of : Node → Operands

@@ -1,13 +1,11 @@
--- What the code's buses, wires and rows stand for.
+-- What the code's buses and rows stand for.
 -- Only proofs use these definitions: no promise to a user names them.
-use Rattle.std.specs.Prelude.{ℕ, ◌+◌, ◌-◌, min, cond, nat_lt, replicate, slice_index_or}
+use Rattle.std.specs.Prelude.{ℕ, replicate, slice_index_or}
 use Rattle.design.specs.Designs.{word}
 use Rattle.netlist.specs.declared.parts.Net.{Net}
-use Rattle.netlist.specs.declared.parts.Net.TheVariants.{Zero, Input, Cell}
+use Rattle.netlist.specs.declared.parts.Net.TheVariants.{Zero}
 use Rattle.netlist.specs.declared.parts.Cell.{Cell as CellT}
 use Rattle.netlist.specs.declared.bus.Bus.{Bus}
-use Rattle.netlist.specs.declared.bus.Wires.{Wires}
-use Rattle.netlist.specs.declared.bus.Wires.TheVariants.{All, Inputs, Cells, Slice, Concat}
 use Rattle.netlist.specs.declared.row.Row.{Row}
 use Rattle.netlist.specs.declared.row.Row.TheVariants.{Gates, Chain, Constant, Register}
 use Rattle.netlist.specs.Building.{gate_row, chain_row, constant_row, register_row}
@@ -18,14 +16,6 @@ no_bus = record { nets = replicate 64 Zero }
 
 abbrev pub net_of : Bus → ℕ → Net
 net_of b k = slice_index_or b.nets k Zero
-
--- numbers of nets have 16 bits; the largest stands for those past it
-abbrev pub wire : Wires → ℕ → Net
-wire (All net) k = net
-wire (Inputs start) k = Input (min 65535 (start + k))
-wire (Cells start) k = Cell (min 65535 (start + k))
-wire (Slice b low) k = net_of b (low + k)
-wire (Concat high low split) k = cond (nat_lt k split) (net_of low k) (net_of high (k - split))
 
 abbrev pub row_cell : Row → (start k : ℕ) → CellT
 row_cell (Gates t a b c) start k = gate_row t (net_of a) (net_of b) (net_of c) k

@@ -1,75 +1,87 @@
 // The nets of a word.
-ghost use Rattle.std.specs.Prelude.{◌≡◌, ℕ, ◌<◌};
-ghost use Rattle.netlist.specs.Rows.{no_bus, net_of, wire};
+ghost use Rattle.std.specs.Prelude.{◌≡◌, ℕ, ◌+◌, ◌-◌, ◌<◌, min, cond, nat_lt};
+ghost use Rattle.netlist.specs.declared.parts.Net.TheVariants.{Zero, Input, Cell};
+ghost use Rattle.netlist.specs.Rows.{no_bus, net_of};
 
 use crate::parts::Net;
+use std::array;
 
-// The low bit first. Nets past the word's width are of no account.
+// The low bit first. Nets past the word's width are of no account. A bus is put together without a cell.
 #[derive(Clone, Copy)]
 pub(crate) struct Bus {
     pub(crate) nets: [Net; 64],
 }
 
-// Nets that are put together without a cell.
-#[derive(Clone, Copy)]
-pub(crate) enum Wires {
-    // one net for every bit
-    All(Net),
-    // the input bits, or the cells, from that number on
-    Inputs(u16),
-    Cells(u16),
-    // the bits of a word from that one on
-    Slice { of: Bus, low: u16 },
-    // a word above another, which has so many bits
-    Concat { high: Bus, low: Bus, split: u16 },
-}
-
 impl Bus {
-    // No net at any bit: the number 0.
-    pub(crate) fn zero() -> Bus
-        ensures { result ≡ no_bus }
-    {
-        Bus {
-            nets: [Net::Zero; 64],
-        }
-    }
-
     // The net of bit k; past the last, `Zero`.
     pub(crate) fn net(self, k: usize) -> Net
         ensures { result ≡ net_of self k }
     {
         if k < 64 { self.nets[k] } else { Net::Zero }
     }
-}
 
-impl Wires {
-    // The net of bit k.
-    fn net(self, k: u16) -> Net
-        ensures { result ≡ wire self k }
+    // No net at any bit: the number 0.
+    pub(crate) fn zero() -> Bus
+        ensures is { result ≡ no_bus }
+        ensures nets { (k : ℕ) → net_of result k ≡ Zero }
     {
-        match self {
-            Wires::All(net) => net,
-            Wires::Inputs(start) => Net::Input(start.saturating_add(k)),
-            Wires::Cells(start) => Net::Cell(start.saturating_add(k)),
-            Wires::Slice { of, low } => of.net(low as usize + k as usize),
-            Wires::Concat { high, low, split } => {
-                if k < split {
-                    low.net(k as usize)
-                } else {
-                    high.net((k - split) as usize)
-                }
-            }
+        Bus {
+            nets: [Net::Zero; 64],
         }
     }
 
-    // The nets of all bits.
-    pub(crate) fn bus(self) -> Bus
-        ensures { (k : ℕ) → k < 64 → net_of result k ≡ wire self k }
+    // One net for every bit.
+    pub(crate) fn all(net: Net) -> Bus
+        ensures { (k : ℕ) → k < 64 → net_of result k ≡ net }
     {
-        let mut nets = [Net::Zero; 64];
-        for k in 0..64u16 {
-            nets[k as usize] = self.net(k);
+        Bus { nets: [net; 64] }
+    }
+
+    // The nets that a function gives for the bits.
+    fn from_fn<F: Fn(u16) -> Net>(net: F) -> Bus
+        requires { F.IsAlwaysCallable net }
+        ensures { (k : ℕ) → k < 64 → F.post net k (net_of result k) }
+    {
+        Bus {
+            nets: array::from_fn(|k| net(k as u16)),
         }
-        Bus { nets }
+    }
+
+    // The input bits from that number on.
+    pub(crate) fn inputs(start: u16) -> Bus
+        ensures { (k : ℕ) → k < 64 → net_of result k ≡ Input (min 65535 (start + k)) }
+    {
+        Bus::from_fn(|k| Net::Input(start.saturating_add(k)))
+    }
+
+    // What the cells from that number on show.
+    pub(crate) fn cells(start: u16) -> Bus
+        ensures { (k : ℕ) → k < 64 → net_of result k ≡ Cell (min 65535 (start + k)) }
+    {
+        Bus::from_fn(|k| Net::Cell(start.saturating_add(k)))
+    }
+
+    // The bits from that one on.
+    pub(crate) fn slice(self, low: u16) -> Bus
+        ensures { (k : ℕ) → k < 64 → net_of result k ≡ net_of self (low + k) }
+    {
+        Bus::from_fn(|k| self.net(low as usize + k as usize))
+    }
+
+    // The word above another, which has so many bits.
+    pub(crate) fn above(self, low: Bus, split: u16) -> Bus
+        ensures { (k : ℕ) → k < 64 → net_of result k ≡ cond (nat_lt k split) (net_of low k) (net_of self (k - split)) }
+    {
+        Bus::from_fn(
+            |k|
+                ensures { result ≡ cond (nat_lt k split) (net_of low k) (net_of self (k - split)) }
+            {
+                if k < split {
+                    low.net(k as usize)
+                } else {
+                    self.net((k - split) as usize)
+                }
+            },
+        )
     }
 }

@@ -5,13 +5,13 @@ ghost use Rattle.design.specs.Encodings.{list_of, design_of};
 ghost use Rattle.netlist.specs.Building.{Lowering};
 ghost use Rattle.netlist.specs.Lowerings.{LayAsks, LayGives, BuildAsks, BuildGives, Lowerable, RegistersIn, OutputsIn, netlist_of, Lowered, lower_refusal, words_refusal};
 
-use crate::bus::{Bus, Wires};
+use crate::bus::Bus;
 use crate::landed::landed;
 use crate::netlists::Netlist;
 use crate::operands::operands_of;
 use crate::operations::{AND, EQUAL, LESS, NOT, OR, PASS, SAME, XOR};
 use crate::row::Row;
-use crate::starts::{Part, bits_before};
+use crate::starts::bits_before;
 use crate::work::Work;
 use design::analysis::Analysis;
 use design::encoded::Encoded;
@@ -25,8 +25,8 @@ fn build(analysis: &Analysis<'_>, work: &mut Work, n: u16, node: Node) -> Bus
     ensures { BuildGives (list_of analysis.now.design) work.old work.new n node result }
 {
     match node {
-        Node::Input(i) => Wires::Inputs(bits_before(analysis.design, Part::Inputs, i)).bus(),
-        Node::Register(r) => Wires::Cells(bits_before(analysis.design, Part::Registers, r)).bus(),
+        Node::Input(i) => Bus::inputs(bits_before(i, |j| analysis.design.input_width(j))),
+        Node::Register(r) => Bus::cells(bits_before(r, |j| analysis.design.register(j).width)),
         Node::Constant { width, value } => work.push(Row::Constant { value }, width),
         Node::And(a, b) => work.binary(AND, a, b, analysis.width(a)),
         Node::Or(a, b) => work.binary(OR, a, b, analysis.width(a)),
@@ -36,17 +36,8 @@ fn build(analysis: &Analysis<'_>, work: &mut Work, n: u16, node: Node) -> Bus
         Node::Less(a, b) => work.compare(LESS, LESS, a, b, analysis.width(a)),
         Node::Equal(a, b) => work.compare(SAME, EQUAL, a, b, analysis.width(a)),
         Node::Mux { choice, one, zero } => work.choose(choice, one, zero, analysis.width(one)),
-        Node::Slice { low, width: _, of } => Wires::Slice {
-            of: work.bus(of),
-            low,
-        }
-        .bus(),
-        Node::Concat { high, low } => Wires::Concat {
-            high: work.bus(high),
-            low: work.bus(low),
-            split: analysis.width(low),
-        }
-        .bus(),
+        Node::Slice { low, width: _, of } => work.bus(of).slice(low),
+        Node::Concat { high, low } => work.bus(high).above(work.bus(low), analysis.width(low)),
     }
 }
 
@@ -119,7 +110,9 @@ fn whole(analysis: &Analysis<'_>) -> Netlist
     ensures { Lowering (design_of analysis.now.design) (netlist_of result) }
 {
     let design = analysis.design;
-    let mut work = Work::new(bits_before(design, Part::Registers, design.registers()) as usize);
+    let mut work = Work::new(
+        bits_before(design.registers(), |r| design.register(r).width) as usize,
+    );
     lay_registers(analysis, &mut work);
     lay_outputs(analysis, &mut work);
     Netlist::new(work.cells, work.count, work.outputs)

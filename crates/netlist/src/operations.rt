@@ -3,8 +3,7 @@ ghost use Rattle.std.specs.Prelude.{◌≡◌, ◌+◌, ◌<◌, ◌≤◌};
 ghost use Rattle.netlist.specs.Building.{gate_row, chain_row};
 ghost use Rattle.netlist.specs.Works.{nets_at, zeros, RowAsks, RowLaid, Compared, Summed};
 
-use crate::bus::{Bus, Wires};
-use crate::parts::Net;
+use crate::bus::Bus;
 use crate::row::Row;
 use crate::work::Work;
 
@@ -37,7 +36,7 @@ impl Work {
         requires { RowAsks self.old a a width }
         ensures { RowLaid self.old self.new width (gate_row table (nets_at self.old a) zeros zeros) result }
     {
-        let none = Wires::All(Net::Zero).bus();
+        let none = Bus::zero();
         self.push(
             Row::Gates {
                 table,
@@ -54,7 +53,7 @@ impl Work {
         requires { RowAsks self.old a b width }
         ensures { RowLaid self.old self.new width (gate_row table (nets_at self.old a) (nets_at self.old b) zeros) result }
     {
-        let none = Wires::All(Net::Zero).bus();
+        let none = Bus::zero();
         self.push(
             Row::Gates {
                 table,
@@ -72,7 +71,7 @@ impl Work {
         requires row { RowAsks self.old one zero width }
         ensures { RowLaid self.old self.new width (gate_row 172 (nets_at self.old one) (nets_at self.old zero) (λ k. nets_at self.old choice 0)) result }
     {
-        let all = Wires::All(self.bus(choice).net(0)).bus();
+        let all = Bus::all(self.bus(choice).net(0));
         self.push(
             Row::Gates {
                 table: MUX,
@@ -107,11 +106,7 @@ impl Work {
         ensures { Compared self.old self.new width (chain_row first table (nets_at self.old a) (nets_at self.old b) self.old.count) result }
     {
         let states = self.chain(first, table, a, b, width);
-        Wires::Slice {
-            of: states,
-            low: width - 1,
-        }
-        .bus()
+        states.slice(width - 1)
     }
 
     // A chain of carries from the low bit up, and then a sum for each bit, of the two bits and the carry into them.
@@ -121,13 +116,8 @@ impl Work {
         ensures { Summed self.old self.new a b width result }
     {
         let carries = self.chain(CARRY, CARRY, a, b, width);
-        let none = Wires::All(Net::Zero).bus();
-        let into = Wires::Concat {
-            high: carries,
-            low: none,
-            split: 1,
-        }
-        .bus();
+        let none = Bus::zero();
+        let into = carries.above(none, 1);
         self.push(
             Row::Gates {
                 table: SUM,

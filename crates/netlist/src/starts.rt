@@ -1,33 +1,15 @@
 // Where the bits of an input or a register begin among those of all.
-ghost use Rattle.std.specs.Prelude.{◌≡◌, min};
+ghost use Rattle.std.specs.Prelude.{◌≡◌, ℕ, ◌<◌, min};
 ghost use Rattle.design.specs.Designs.{total};
-ghost use Rattle.design.specs.Encodings.{design_of};
-ghost use Rattle.netlist.specs.Lowerings.{widths};
 
-use design::encoded::Encoded;
-
-#[derive(Clone, Copy)]
-pub(crate) enum Part {
-    Inputs,
-    Registers,
-}
-
-fn width(design: Encoded<'_>, part: Part, i: u16) -> u16
-    ensures { result ≡ widths (design_of design.entry) part i }
-{
-    match part {
-        Part::Inputs => design.input_width(i),
-        Part::Registers => design.register(i).width,
-    }
-}
-
-// How many bits those before have; 65,535 stands for more.
-pub(crate) fn bits_before(design: Encoded<'_>, part: Part, i: u16) -> u16
-    ensures { result ≡ min 65535 (total i (widths (design_of design.entry) part)) }
+// How many bits the words before that one have, of such widths; 65,535 stands for more.
+pub(crate) fn bits_before<F: Fn(u16) -> u16>(word: u16, width: F) -> u16
+    requires { F.IsAlwaysCallable width }
+    ensures { (widths : ℕ → ℕ) → ((j w : ℕ) → j < word → F.post width j w → w ≡ widths j) → result ≡ min 65535 (total word widths) }
 {
     let mut bits: u16 = 0;
-    for j in 0..i {
-        bits = bits.saturating_add(width(design, part, j));
+    for j in 0..word {
+        bits = bits.saturating_add(width(j));
     }
     bits
 }

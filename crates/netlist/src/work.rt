@@ -3,7 +3,7 @@ ghost use Rattle.std.specs.Prelude.{◌≡◌, ℕ, ◌+◌, ◌<◌, ◌≤◌,
 ghost use Rattle.netlist.specs.Rows.{row_cell};
 ghost use Rattle.netlist.specs.Works.{is_laid, bus_at, outs_of, Wrote, RowLaid};
 
-use crate::bus::{Bus, Wires};
+use crate::bus::Bus;
 use crate::parts::Cell;
 use crate::row::Row;
 
@@ -92,7 +92,7 @@ impl Work {
         let start = self.count as u16;
         self.write(start, row, width);
         self.count += width as usize;
-        Wires::Cells(start).bus()
+        Bus::cells(start)
     }
 
     // Notes that output bits from `at` on are shown by the cells from `first` on.

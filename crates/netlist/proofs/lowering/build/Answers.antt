@@ -1,4 +1,4 @@
-use Rattle.std.proofs.Common.{arith}
+use Rattle.std.proofs.Common.{arith, rules}
 use Rattle.netlist.proofs.Nodes.{asks_as, gives_as, and_pair, and_asks, and_built, or_pair, or_asks, or_built, xor_pair, xor_asks, xor_built, add_pair, add_asks, add_built, less_pair, less_asks, less_built, equal_pair, equal_asks, equal_built, add_room, not_operand, not_asks, not_built, mux_choice, mux_asks, mux_built, constant_room, constant_built, slice_part, slice_built, concat_joined, concat_built, input_built, register_built}
 use Rattle.netlist.proofs.lowering.build.Goals as goal
 
@@ -108,15 +108,15 @@ returns-in-Constant c =
     let k = asks_as _ _ _ _ _ c.in-Constant.is c.requires in
     gives_as _ _ _ _ _ _ _ c.in-Constant.is (constant_built _ _ _ _ _ _ _ k c.push.ensures)
 
-pub bus-requires-in-Slice : goal.bus-requires-in-Slice
-bus-requires-in-Slice c =
+pub bus-requires : goal.bus-requires
+bus-requires c =
     let k = asks_as _ _ _ _ _ c.in-Slice.is c.requires in
     (slice_part _ _ _ _ _ _ k).a_ok.small
 
 pub returns-in-Slice : goal.returns-in-Slice
 returns-in-Slice c =
     let k = asks_as _ _ _ _ _ c.in-Slice.is c.requires in
-    gives_as _ _ _ _ _ _ _ c.in-Slice.is (slice_built _ _ _ _ _ _ _ _ k c.bus-in-Slice.ensures c.bus-in-Slice-2.ensures)
+    gives_as _ _ _ _ _ _ _ c.in-Slice.is (slice_built _ _ _ _ _ _ _ _ k c.bus.ensures c.slice.ensures)
 
 pub bus-requires-in-Concat : goal.bus-requires-in-Concat
 bus-requires-in-Concat c =
@@ -132,14 +132,14 @@ pub returns-in-Concat : goal.returns-in-Concat
 returns-in-Concat c =
     let k = asks_as _ _ _ _ _ c.in-Concat.is c.requires in
     let p = concat_joined _ _ _ _ _ k in
-    gives_as _ _ _ _ _ _ _ c.in-Concat.is (concat_built _ _ _ _ _ _ _ _ _ k (c.width-in-Concat.ensures p.b_ok.there p.b_ok.formed) c.bus-in-Concat.ensures c.bus-in-Concat-2.ensures c.bus-in-Concat-3.ensures)
+    gives_as _ _ _ _ _ _ _ c.in-Concat.is (concat_built _ _ _ _ _ _ _ _ _ k (c.width-in-Concat.ensures p.b_ok.there p.b_ok.formed) c.bus-in-Concat.ensures c.bus-in-Concat-2.ensures c.above.ensures)
 
 pub returns-in-Input : goal.returns-in-Input
 returns-in-Input c =
     let k = asks_as _ _ _ _ _ c.in-Input.is c.requires in
-    gives_as _ _ _ _ _ _ _ c.in-Input.is (input_built _ _ _ _ _ _ k (omega arith) c.bits_before.ensures c.bus.ensures)
+    gives_as _ _ _ _ _ _ _ c.in-Input.is (input_built _ _ _ _ _ _ k (omega arith) (c.bits_before.ensures _ (λ j w h p. search rules)) c.inputs.ensures)
 
 pub returns-in-Register : goal.returns-in-Register
 returns-in-Register c =
     let k = asks_as _ _ _ _ _ c.in-Register.is c.requires in
-    gives_as _ _ _ _ _ _ _ c.in-Register.is (register_built _ _ _ _ _ _ k c.bits_before-in-Register.ensures (omega (arith, c.requires.room)) c.bus-in-Register.ensures)
+    gives_as _ _ _ _ _ _ _ c.in-Register.is (register_built _ _ _ _ _ _ k (c.bits_before-in-Register.ensures _ (λ j w h p. search rules)) (omega (arith, c.requires.room)) c.cells.ensures)

@@ -1,4 +1,4 @@
-use Rattle.std.proofs.Common.{min, ap, ◌∙◌}
+use Rattle.std.proofs.Common.{min, ap, ◌∙◌, rules}
 use Rattle.design.specs.Designs.{total}
 use Rattle.design.specs.Numbers.{design_in}
 use Rattle.netlist.proofs.Whole.{registers_none, outputs_none, whole_small, finished}
@@ -7,7 +7,7 @@ use Rattle.netlist.proofs.lowering.whole.Goals as goal
 pub lay_registers-requires : goal.lay_registers-requires
 lay_registers-requires c = record {
   lowerable = c.requires;
-  begun = registers_none _ _ _ c.requires (c.bits_before.ensures ∙ ap (λ k. min 65535 (total k (design_in c.args.analysis.now.design.numbers.now).register_width)) c.registers.ensures)
+  begun = registers_none _ _ _ c.requires (c.bits_before.ensures _ (λ j w h p. search rules) ∙ ap (λ k. min 65535 (total k (design_in c.args.analysis.now.design.numbers.now).register_width)) c.registers.ensures)
       c.new-work.ensures.count c.new-work.ensures.none;
 }
 
