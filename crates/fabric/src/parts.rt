@@ -166,6 +166,7 @@ impl Source {
 impl From<Source> for u16 {
     ghost from_gives = { λ source n. (source_of n ≡ numbered source) × (n < 258) };
 
+    #[tactic(auto, using(std::proofs::lemmas::Bool::Decides::nat_tests), unfolding(crate::specs::Numbers::source_of))]
     fn from(source: Source) -> u16 {
         match source {
             Source::Nothing => 0,

@@ -15,6 +15,7 @@ impl TryFrom<Size> for Grid {
 
     ghost try_from_gives = { λ size r. MatchResult r (λ g. (size_refusal size ≡ None) × (size_of g ≡ size)) (λ f. size_refusal size ≡ Some f) };
 
+    #[tactic(auto, using(std::proofs::lemmas::Bool::Decides::nat_tests), unfolding(crate::specs::Numbers::size_refusal, crate::specs::Numbers::room_length, crate::specs::Numbers::per_cell))]
     fn try_from(size: Size) -> Result<Grid, Refusal> {
         let Size {
             columns,
@@ -50,6 +51,7 @@ impl Grid {
     }
 
     // How many numbers configure one cell.
+    #[tactic(auto, unfolding(crate::specs::Numbers::per_cell))]
     pub fn per_cell(self) -> usize
         ensures { result ≡ per_cell (size_of self) }
     {
@@ -57,6 +59,7 @@ impl Grid {
     }
 
     // How many numbers configure the fabric.
+    #[tactic(auto, unfolding(crate::specs::Numbers::room_length, crate::specs::Numbers::per_cell))]
     pub fn room_len(self) -> usize
         ensures { result ≡ room_length (size_of self) }
     {
@@ -64,6 +67,7 @@ impl Grid {
     }
 
     // How many pads there are.
+    #[tactic(auto, unfolding(crate::specs::Numbers::pads_length))]
     pub fn pads_len(self) -> usize
         ensures { result ≡ pads_length (size_of self) }
     {
@@ -79,6 +83,7 @@ impl Grid {
     }
 
     // Whether no neighbour stands on that side of the cell.
+    #[tactic(auto, using(std::proofs::lemmas::Bool::Decides::nat_tests), unfolding(crate::specs::Fabrics::at_edge))]
     pub fn at_edge(self, cell: usize, side: Side) -> bool
         ensures { result ≡ at_edge (size_of self) cell side }
     {

@@ -19,6 +19,7 @@ impl Spot<'_> {
     }
 
     // What the cell shows.
+    #[tactic(auto, unfolding(crate::specs::Code::state_of))]
     pub(crate) fn shown(self) -> bool
         ensures { result ≡ (levels_of self.entry.moment).cell self.entry.cell }
     {
@@ -27,6 +28,7 @@ impl Spot<'_> {
     }
 
     // What a track carries that goes out of the cell.
+    #[tactic(auto, unfolding(crate::specs::Code::state_of))]
     pub(crate) fn carried(self, side: Side, track: usize) -> bool
         requires { track < self.moment.wiring.grid.tracks }
         ensures { result ≡ (levels_of self.entry.moment).track self.entry.cell side track }
@@ -37,6 +39,7 @@ impl Spot<'_> {
     }
 
     // What a pad at the cell carries.
+    #[tactic(auto, unfolding(crate::specs::Numbers::pads_in, crate::specs::Numbers::pad_place))]
     pub(crate) fn pad(self, side: Side, track: usize) -> bool
         requires { track < self.moment.wiring.grid.tracks }
         ensures { result ≡ pads_of self.entry.moment.wiring self.entry.cell side track }
@@ -46,6 +49,7 @@ impl Spot<'_> {
     }
 
     // What comes in to the cell from a side on a track.
+    #[tactic(auto, unfolding(crate::specs::Fabrics::incoming))]
     pub(crate) fn incoming(self, side: Side, track: usize) -> bool
         requires { track < self.moment.wiring.grid.tracks }
         ensures { let w = self.entry.moment.wiring in result ≡ incoming (grid_of w) (pads_of w) (levels_of self.entry.moment) self.entry.cell side track }
@@ -58,6 +62,7 @@ impl Spot<'_> {
     }
 
     // What a source at the cell gives.
+    #[tactic(auto, using(std::proofs::lemmas::Bool::Decides::nat_tests), unfolding(crate::specs::Fabrics::read))]
     pub(crate) fn read(self, source: Source) -> bool
         ensures { let w = self.entry.moment.wiring in result ≡ read (grid_of w) (pads_of w) (levels_of self.entry.moment) self.entry.cell source }
     {
@@ -72,6 +77,7 @@ impl Spot<'_> {
     }
 
     // What input k of the cell gives, as a number.
+    #[tactic(auto, unfolding(crate::specs::Numbers::per_cell))]
     pub(crate) fn input(self, k: usize) -> usize
         requires { k < 4 }
         ensures is { let w = self.entry.moment.wiring in result ≡ bit (read (grid_of w) (pads_of w) (levels_of self.entry.moment) self.entry.cell ((config_of w).input self.entry.cell k)) }
@@ -81,6 +87,7 @@ impl Spot<'_> {
     }
 
     // The bit of the cell's table that its inputs say.
+    #[tactic(auto, unfolding(crate::specs::Numbers::per_cell, crate::specs::Numbers::config_in, crate::specs::Fabrics::lookup))]
     pub(crate) fn lookup(self) -> bool
         ensures { let w = self.entry.moment.wiring in result ≡ lookup (grid_of w) (config_of w) (pads_of w) (levels_of self.entry.moment) self.entry.cell }
     {

@@ -9,6 +9,7 @@ use crate::wiring::{Moment, Spot, Wiring};
 
 impl Spot<'_> {
     // What the cell shows after a sweep.
+    #[tactic(auto, unfolding(crate::specs::Numbers::per_cell))]
     pub(crate) fn next(self, held: &[u8]) -> bool
         ensures { let w = self.entry.moment.wiring in result ≡ (sweep (grid_of w) (config_of w) (held_in held.now) (pads_of w) (levels_of self.entry.moment)).cell self.entry.cell }
     {

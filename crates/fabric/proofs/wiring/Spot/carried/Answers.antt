@@ -1,6 +1,6 @@
 use Rattle.std.proofs.Common.{arith}
 use Rattle.fabric.specs.Fabrics.{cell_count}
-use Rattle.fabric.specs.Code.{grid_of, state_of}
+use Rattle.fabric.specs.Code.{grid_of}
 use Rattle.fabric.proofs.Indices.{track_below}
 use Rattle.fabric.proofs.wiring.Spot.carried.Goals as goal
 
@@ -12,7 +12,3 @@ bounds-self-self c =
       track_below (cell_count (grid_of c.args.self.moment.wiring)) c.args.self.moment.wiring.grid.tracks c.args.self.cell c.from.result c.args.track
           c.args.self.inside c.from.ensures.1 c.requires,
     )
-
-pub returns : goal.returns
-unfolding state_of
-returns c = simp c.from.ensures.0

@@ -1,13 +1,8 @@
-use Rattle.std.proofs.Common.{ap, ◌∙◌, arith}
+use Rattle.std.proofs.Common.{ap, ◌∙◌}
 use Rattle.design.specs.Designs.{bit}
-use Rattle.fabric.specs.Numbers.{per_cell}
 use Rattle.fabric.specs.Code.{grid_of, pads_of, levels_of}
 use Rattle.fabric.proofs.Readings.{bit_byte, bit_small, input_is}
 use Rattle.fabric.proofs.wiring.Spot.input.Goals as goal
-
-pub word-requires : goal.word-requires
-unfolding per_cell
-word-requires c = omega arith
 
 pub returns : goal.returns
 returns c = record {

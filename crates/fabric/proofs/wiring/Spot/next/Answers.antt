@@ -1,12 +1,7 @@
-use Rattle.std.proofs.Common.{unwrap_or, ap, ◌∙◌, arith}
-use Rattle.fabric.specs.Numbers.{per_cell}
+use Rattle.std.proofs.Common.{unwrap_or, ap, ◌∙◌}
 use Rattle.fabric.specs.Code.{grid_of, pads_of, levels_of}
 use Rattle.fabric.proofs.Readings.{copied_item, cell_held, cell_looks}
 use Rattle.fabric.proofs.wiring.Spot.next.Goals as goal
-
-pub word-requires : goal.word-requires
-unfolding per_cell
-word-requires c = omega arith
 
 pub returns-then-word-eq1 : goal.returns-then-word-eq1
 returns-then-word-eq1 c =

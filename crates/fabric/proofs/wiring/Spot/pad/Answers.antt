@@ -1,6 +1,5 @@
 use Rattle.std.proofs.Common.{arith}
 use Rattle.fabric.specs.Fabrics.{cell_count}
-use Rattle.fabric.specs.Numbers.{pad_place, pads_in}
 use Rattle.fabric.specs.Code.{grid_of}
 use Rattle.fabric.proofs.Indices.{pad_below}
 use Rattle.fabric.proofs.wiring.Spot.pad.Goals as goal
@@ -13,7 +12,3 @@ bounds-wiring-self c =
       pad_below (cell_count (grid_of c.args.self.moment.wiring)) c.args.self.moment.wiring.grid.tracks c.args.self.cell c.from.result c.args.track
           c.args.self.inside c.from.ensures.1 c.requires,
     )
-
-pub returns : goal.returns
-unfolding pads_in pad_place
-returns c = simp c.from.ensures.0
