@@ -1,16 +1,13 @@
 use Rattle.std.proofs.Common.{◌≤◌, ◌∙◌, arith}
-use Rattle.std.proofs.lemmas.Result.{err_from_is_err_and}
 use Rattle.fabric.specs.Code.{size_of}
 use Rattle.design.specs.Designs.{output_bits}
 use Rattle.design.specs.Encodings.{design_of, list_of}
-use Rattle.bitstream.proofs.Refusing.{few_cells, has_room, outputs_below, inputs_below, plain_room, lowers_surely, pins_are}
+use Rattle.bitstream.proofs.Refusing.{hands_on, few_cells, has_room, outputs_below, inputs_below, plain_room, lowers_surely, pins_are}
 use Rattle.bitstream.proofs.Putting.{nets_exist, outputs_exist}
 use Rattle.bitstream.proofs.plans.Request.lay_out.Goals as goal
 
 pub returns-in_err-plain_room : goal.returns-in_err-plain_room
-returns-in_err-plain_room c =
-    let p = err_from_is_err_and c.from_residual.result c.from_residual.ensures.1 in
-    rw (p.1, p.2) c.in_err-plain_room.ensures
+returns-in_err-plain_room c = hands_on _ _ _ c.from_residual.ensures.1 c.in_err-plain_room.ensures
 
 pub returns-in_err-netlist : goal.returns-in_err-netlist
 returns-in_err-netlist c =
