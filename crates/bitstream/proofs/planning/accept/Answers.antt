@@ -24,12 +24,6 @@ returns-in_err-counts c =
     let r = c.if-room-room_len.false ∙ (c.room_len.ensures ∙ ap room_length g.1) in
     hands_on _ _ _ c.from_residual-in_err-counts.ensures.1 (refuses_unsound _ _ _ _ g.0 d.0 r _ (sym (ap (λ xs. soundness_refusal (design_in xs)) d.1) ∙ c.in_err-counts.ensures))
 
-pub overflow_add-needed : goal.overflow_add-needed
-overflow_add-needed c = record { fits = omega (arith, c.in_ok-counts.counts.few_inputs, c.in_ok-counts.counts.few_outputs) }
-
-pub overflow_mul-needed : goal.overflow_mul-needed
-overflow_mul-needed c = record { fits = omega (arith, c.in_ok-counts.counts.few_inputs, c.in_ok-counts.counts.few_outputs) }
-
 -- what `check` says, of the list that was lent
 abbrev Checked : Counts → List ℕ → Type 0
 Checked k xs = (soundness_refusal (design_in xs) ≡ None) × Counted (design_in xs) k
