@@ -8,7 +8,7 @@ ghost use Rattle.putting.specs.Refusing.{asked_refusal, expected};
 use crate::pinning::ports;
 use crate::unput::Unput;
 use crate::widths::{bits, input_widths, output_widths};
-use bitstream_wide::{Made, put};
+use bitstream::{Made, put_words};
 use design::encoded::Encoded;
 use design::refusal::Refusal;
 use fabric::grid::Grid;
@@ -76,7 +76,7 @@ fn put_room(heap: Global, grid: Grid, design: &[u16], pins: &mut [u16]) -> Resul
     ensures { IfOk result (λ v. vec_len v ≡ room_length (size_of grid)) }
 {
     let mut room = zeros(heap, grid.room_len())?;
-    match put(
+    match put_words(
         grid.columns as u64,
         grid.rows as u64,
         grid.tracks as u64,
