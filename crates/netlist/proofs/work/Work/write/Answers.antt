@@ -1,10 +1,7 @@
-use Rattle.std.proofs.Common.{◌≡◌, refl, ap, ◌∙◌, arith}
+use Rattle.std.proofs.Common.{◌≡◌, ap, ◌∙◌, arith}
 use Rattle.netlist.specs.declared.work.Work.{Work}
-use Rattle.netlist.proofs.Working.{wrote_none, wrote_more}
+use Rattle.netlist.proofs.Working.{wrote_more}
 use Rattle.netlist.proofs.work.Work.write.Goals as goal
-
-pub loop-k-init : goal.loop-k-init
-loop-k-init g c = (refl, λ row is. wrote_none _ _ _)
 
 pub loop-k-preserved : goal.loop-k-preserved
 loop-k-preserved g c = (
