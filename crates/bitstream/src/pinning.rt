@@ -19,7 +19,8 @@ impl Plan {
         }
     }
 
-    // The pins of the input bits, then those of the output bits; what lies past them stays.
+    // The pins of the input bits, then those of the output bits; what lies past them stays. Three places are written at a time, and not a
+    // chunk, for the reason that `write_room` gives.
     pub(crate) fn write_pins(&self, pins: &mut [u16])
         requires { 3 * self.now.pins ≤ length pins.old }
         ensures { PinsWritten self.now self.now.pins pins.old pins.new }
