@@ -1,10 +1,17 @@
 // What a line of a listing may say.
 use fabric::parts::{Pin, Side, Source};
 
+// Whether bits go into the fabric or come out of it.
+#[derive(Clone, Copy, PartialEq, Eq)]
+pub enum Direction {
+    In,
+    Out,
+}
+
 // A bit of an input or an output, where it goes in or comes out, and the line that says so.
 #[derive(Clone, Copy)]
 pub struct Seat<'a> {
-    pub output: bool,
+    pub direction: Direction,
     pub name: &'a str,
     pub bit: u16,
     pub pin: Pin,
