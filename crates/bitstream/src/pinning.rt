@@ -27,7 +27,7 @@ fn write_pin(pins: &mut [u16], m: usize, pin: Pin)
 {
     let start = 3 * m;
     pins[start] = pin.cell;
-    pins[start + 1] = pin.side.number();
+    pins[start + 1] = u16::from(pin.side);
     pins[start + 2] = pin.track;
 }
 

@@ -34,14 +34,14 @@ fn number(routing: Plain, cell: Cell, at: u16, j: usize) -> u16
     if j < 16 {
         bit(cell.table, j)
     } else if j < 20 {
-        routing.source(at, cell.inputs[j - 16]).number()
+        u16::from(routing.source(at, cell.inputs[j - 16]))
     } else if j == 20 {
         flag(cell.holds)
     } else if j == 21 {
         flag(cell.initial)
     } else {
         let track = ((j - 22) % routing.grid.tracks) as u16;
-        routing.source(at, routing.carried(track)).number()
+        u16::from(routing.source(at, routing.carried(track)))
     }
 }
 

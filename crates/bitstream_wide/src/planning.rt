@@ -14,6 +14,7 @@ use design::encoded::{Encoded, validate};
 use design::refusal::Refusal;
 use design::soundness::check;
 use fabric::grid::Grid;
+use fabric::size::Size;
 use netlist_wide::lowering::lower;
 use route::plain::Plain;
 
@@ -70,7 +71,11 @@ pub(crate) fn plan(
         × (grid_of p ≡ record { columns = across; rows = down; tracks = tracks }) × Planned (design_in numbers.now) p)
         (λ f. put_answer (record { columns = across; rows = down; tracks = tracks }) numbers.now room.now pins.now ≡ Some f) }
 {
-    let grid = Grid::new(across, down, tracks)?;
+    let grid = Grid::try_from(Size {
+        columns: across,
+        rows: down,
+        tracks,
+    })?;
     validate(numbers)?;
     if room.len() != grid.room_len() {
         return Err(Refusal::RoomLength);

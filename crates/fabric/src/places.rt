@@ -6,15 +6,21 @@ ghost use Rattle.fabric.specs.Code.{size_of, per_signal, signal_count, track_pla
 
 use crate::grid::Grid;
 use crate::parts::Side;
+use crate::size::Size;
 use design::refusal::Refusal;
 
-impl Grid {
-    // The grid of that size, or why there is none.
-    pub fn new(columns: u64, rows: u64, tracks: u64) -> Result<Grid, Refusal>
-        ensures { MatchResult result
-            (λ g. (size_refusal (record { columns = columns; rows = rows; tracks = tracks }) ≡ None) × (size_of g ≡ record { columns = columns; rows = rows; tracks = tracks }))
-            (λ f. size_refusal (record { columns = columns; rows = rows; tracks = tracks }) ≡ Some f) }
-    {
+// The grid of that size, or why there is none.
+impl TryFrom<Size> for Grid {
+    type Error = Refusal;
+
+    ghost try_from_gives = { λ size r. MatchResult r (λ g. (size_refusal size ≡ None) × (size_of g ≡ size)) (λ f. size_refusal size ≡ Some f) };
+
+    fn try_from(size: Size) -> Result<Grid, Refusal> {
+        let Size {
+            columns,
+            rows,
+            tracks,
+        } = size;
         if rows == 0 || rows > 32 {
             return Err(Refusal::Rows);
         }
@@ -33,7 +39,9 @@ impl Grid {
             tracks: tracks as usize,
         })
     }
+}
 
+impl Grid {
     // How many cells there are.
     pub fn cells(self) -> usize
         ensures { result ≡ cell_count (size_of self) }
@@ -113,7 +121,7 @@ impl Grid {
         ensures is { result ≡ track_place (size_of self) cell side track }
         ensures inside { result < signal_count (size_of self) }
     {
-        cell * (1 + 4 * self.tracks) + (1 + (side.number() as usize * self.tracks + track))
+        cell * (1 + 4 * self.tracks) + (1 + (u16::from(side) as usize * self.tracks + track))
     }
 
     // Where a pad stands among all.
@@ -123,6 +131,6 @@ impl Grid {
         ensures is { result ≡ pad_place (size_of self) cell side track }
         ensures inside { result < pads_length (size_of self) }
     {
-        (cell * 4 + side.number() as usize) * self.tracks + track
+        (cell * 4 + u16::from(side) as usize) * self.tracks + track
     }
 }

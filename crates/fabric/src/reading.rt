@@ -58,7 +58,7 @@ impl Wiring<'_, '_> {
         ensures is { result ≡ bit (read (grid_of self.entry) (pads_of self.entry) (state_of (grid_of self.entry) levels.now) cell ((config_of self.entry).input cell k)) }
         ensures small { result < 2 }
     {
-        let source = Source::of(self.word(cell, 16 + k));
+        let source = Source::from(self.word(cell, 16 + k));
         if self.read(levels, cell, source) {
             1
         } else {

@@ -44,8 +44,8 @@ impl Wiring<'_, '_> {
         requires some { track < self.grid.tracks }
         ensures { result ≡ read (grid_of self.entry) (pads_of self.entry) (state_of (grid_of self.entry) levels.now) cell ((config_of self.entry).drive cell side track) }
     {
-        let number = side.number() as usize;
-        let source = Source::of(self.word(cell, 22 + (number * self.grid.tracks + track)));
+        let number = u16::from(side) as usize;
+        let source = Source::from(self.word(cell, 22 + (number * self.grid.tracks + track)));
         self.read(levels, cell, source)
     }
 

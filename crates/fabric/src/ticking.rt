@@ -6,6 +6,7 @@ ghost use Rattle.fabric.specs.Ticks.{TickSays};
 ghost use Rattle.fabric.specs.Code.{grid_of, config_of, pads_of, FitsTick};
 
 use crate::grid::Grid;
+use crate::size::Size;
 use crate::sweeping::blank;
 use crate::wiring::Wiring;
 use design::refusal::Refusal;
@@ -36,27 +37,24 @@ pub fn tick(
 ) -> Done
     ensures { TickSays (record { columns = across; rows = down; tracks = tracks }) bits.now kept.old pads.now outs.old result kept.new outs.new }
 {
-    match checked(across, down, tracks, bits, kept, pads, outs) {
+    let size = Size {
+        columns: across,
+        rows: down,
+        tracks,
+    };
+    match checked(size, bits, kept, pads, outs) {
         Err(refusal) => Done::Turned(refusal),
         Ok(grid) => play(Wiring { grid, bits, pads }, kept, outs),
     }
 }
 
 // The grid of a tick, or the first reason to turn it away.
-fn checked(
-    columns: u64,
-    rows: u64,
-    tracks: u64,
-    bits: &[u16],
-    held: &[u8],
-    pads: &[u8],
-    outs: &[u8],
-) -> Result<Grid, Refusal>
+fn checked(size: Size, bits: &[u16], held: &[u8], pads: &[u8], outs: &[u8]) -> Result<Grid, Refusal>
     ensures { MatchResult result
-        (λ g. FitsTick g (record { columns = columns; rows = rows; tracks = tracks }) bits.now held.now pads.now outs.now)
-        (λ f. tick_refusal (record { columns = columns; rows = rows; tracks = tracks }) bits.now held.now pads.now outs.now ≡ Some f) }
+        (λ g. FitsTick g size bits.now held.now pads.now outs.now)
+        (λ f. tick_refusal size bits.now held.now pads.now outs.now ≡ Some f) }
 {
-    let grid = Grid::new(columns, rows, tracks)?;
+    let grid = Grid::try_from(size)?;
     if bits.len() != grid.room_len() {
         return Err(Refusal::BitsLength);
     }

@@ -44,7 +44,7 @@ fn track_place(grid: Grid, side: Side, track: u16) -> Option<usize>
 {
     let track = track as usize;
     if track < grid.tracks {
-        Some(side.number() as usize * grid.tracks + track)
+        Some(u16::from(side) as usize * grid.tracks + track)
     } else {
         None
     }
@@ -167,7 +167,7 @@ impl Draft {
 
     fn write_sources(&mut self, cell: u16, sources: [Source; 4]) {
         for (k, source) in sources.iter().enumerate() {
-            self.write(cell, 16usize.saturating_add(k), source.number());
+            self.write(cell, 16usize.saturating_add(k), u16::from(*source));
         }
     }
 
@@ -190,7 +190,7 @@ impl Draft {
             return false;
         };
         let first = self.mark(cell, 2 + at);
-        self.write(cell, 22 + at, source.number());
+        self.write(cell, 22 + at, u16::from(source));
         first
     }
 

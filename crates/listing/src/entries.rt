@@ -1,6 +1,5 @@
 // The lines of a listing after the first.
 use crate::numbers::hex;
-use crate::sides::side_named;
 use crate::words::Words;
 use fabric::parts::{Pin, Side, Source};
 
@@ -65,7 +64,7 @@ fn source(words: &mut Words) -> Option<Source> {
         "nothing" => Some(Source::Nothing),
         "own" => Some(Source::Own),
         _ => {
-            let side = side_named(word)?;
+            let side = word.parse().ok()?;
             let track = words.number()?;
             if track < 64 {
                 Some(Source::Track { side, track })
@@ -122,7 +121,7 @@ fn cell_entry<'a>(words: &mut Words<'a>) -> Option<Entry<'a>> {
     match word {
         "table" => table(words, cell),
         "holds" => holds(words, cell),
-        _ => drive(words, cell, side_named(word)?),
+        _ => drive(words, cell, word.parse().ok()?),
     }
 }
 
@@ -136,7 +135,7 @@ fn seat(words: &mut Words) -> Option<(u16, Pin)> {
     let bit = words.number()?;
     words.expect("at")?;
     let cell = words.number()?;
-    let side = side_named(words.next()?)?;
+    let side = words.next()?.parse().ok()?;
     let track = words.number()?;
     if bit < 64 {
         Some((bit, Pin { cell, side, track }))

@@ -8,5 +8,4 @@ pub mod numbers;
 pub mod parts;
 pub mod printing;
 pub mod reading;
-pub mod sides;
 pub mod words;

@@ -1,9 +1,8 @@
 // The text of a listing.
 use crate::fault::Fault;
 use crate::parts::{Listing, Port};
-use crate::sides::{side_at, side_name};
 use fabric::grid::Grid;
-use fabric::parts::{Pin, Source};
+use fabric::parts::{Pin, Side, Source};
 use std::alloc::Global;
 
 // The numbers of one cell.
@@ -38,7 +37,7 @@ fn holds(part: &[u16]) -> bool {
 // Whether an input of the cell takes from anything.
 fn reads(part: &[u16]) -> bool {
     for k in 16..20usize {
-        if !matches!(Source::of(number(part, k)), Source::Nothing) {
+        if Source::from(number(part, k)) != Source::Nothing {
             return true;
         }
     }
@@ -55,7 +54,6 @@ fn print_source(out: &mut String, source: Source) -> Result<(), Fault> {
         Source::Nothing => out.push_str(" nothing")?,
         Source::Own => out.push_str(" own")?,
         Source::Track { side, track } => {
-            let side = side_name(side);
             write!(out, " {side} {track}")?;
         }
     }
@@ -66,7 +64,7 @@ fn print_table(out: &mut String, cell: usize, part: &[u16]) -> Result<(), Fault>
     let bits = table(part);
     write!(out, "cell {cell} table {bits:04x} from")?;
     for k in 16..20usize {
-        print_source(out, Source::of(number(part, k)))?;
+        print_source(out, Source::from(number(part, k)))?;
     }
     out.push_str("\n")?;
     Ok(())
@@ -86,7 +84,7 @@ fn print_drive(
     place: usize,
     source: Source,
 ) -> Result<(), Fault> {
-    let side = side_name(side_at(place / grid.tracks));
+    let side = Side::at(place / grid.tracks);
     let track = place % grid.tracks;
     write!(out, "cell {cell} {side} {track} from")?;
     print_source(out, source)?;
@@ -96,8 +94,8 @@ fn print_drive(
 
 fn print_drives(out: &mut String, grid: Grid, cell: usize, part: &[u16]) -> Result<(), Fault> {
     for place in 0..4 * grid.tracks {
-        let source = Source::of(number(part, 22 + place));
-        if !matches!(source, Source::Nothing) {
+        let source = Source::from(number(part, 22 + place));
+        if source != Source::Nothing {
             print_drive(out, grid, cell, place, source)?;
         }
     }
@@ -123,7 +121,7 @@ fn print_cells(out: &mut String, grid: Grid, room: &[u16]) -> Result<(), Fault> 
 
 fn print_pin(out: &mut String, word: &str, name: &str, bit: usize, pin: Pin) -> Result<(), Fault> {
     let cell = pin.cell;
-    let side = side_name(pin.side);
+    let side = pin.side;
     let track = pin.track;
     write!(out, "{word} {name} {bit} at {cell} {side} {track}\n")?;
     Ok(())

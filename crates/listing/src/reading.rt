@@ -9,6 +9,7 @@ use crate::numbers::decimal_or_most;
 use crate::parts::Listing;
 use crate::words::Words;
 use fabric::grid::Grid;
+use fabric::size::Size;
 use std::alloc::Global;
 
 // Rows, columns and tracks of the line `fabric ROWS COLUMNS TRACKS`.
@@ -61,7 +62,11 @@ impl Listing {
         let Some((rows, columns, tracks)) = fabric_line(first) else {
             return Err(Fault::text(0));
         };
-        let grid = Grid::new(columns, rows, tracks)?;
+        let grid = Grid::try_from(Size {
+            columns,
+            rows,
+            tracks,
+        })?;
         let mut draft = Draft::new(heap, grid)?;
         read_lines(&mut draft, heap, rest)?;
         draft.finish(heap)

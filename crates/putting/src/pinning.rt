@@ -1,24 +1,11 @@
 // The pins of a design's words, from the list that putting it on a fabric writes.
 ghost use Rattle.std.specs.Prelude.{◌≡◌, IfOk, vec_len, slice_index};
-ghost use Rattle.putting.specs.Sides.{side_at};
 
 use crate::unput::Unput;
 use fabric::parts::{Pin, Side};
 use listings::parts::Port;
 use pages::page::Page;
 use std::alloc::{AllocError, Global};
-
-// The side of that number; above 3 the last.
-fn side_at(n: u16) -> Side
-    ensures { result ≡ side_at n }
-{
-    match n {
-        0 => Side::Right,
-        1 => Side::Below,
-        2 => Side::Left,
-        _ => Side::Above,
-    }
-}
 
 // A number of the pins; 0 past their end.
 fn number(pins: &[u16], at: usize) -> u16
@@ -32,7 +19,7 @@ fn pin_of(pins: &[u16], bit: usize) -> Pin {
     let at = bit.saturating_mul(3);
     Pin {
         cell: number(pins, at),
-        side: side_at(number(pins, at.saturating_add(1))),
+        side: Side::at(number(pins, at.saturating_add(1)) as usize),
         track: number(pins, at.saturating_add(2)),
     }
 }

@@ -12,6 +12,7 @@ use bitstream_wide::{Made, put};
 use design::encoded::Encoded;
 use design::refusal::Refusal;
 use fabric::grid::Grid;
+use fabric::size::Size;
 use listings::parts::Listing;
 use std::alloc::Global;
 
@@ -160,7 +161,12 @@ pub fn compiled(
         (IfOk result (λ l. size_of l.grid ≡ record { columns = columns; rows = rows; tracks = tracks }))
         (λ f. result ≡ Err (Turned f)) }
 {
-    let grid = match Grid::new(columns, rows, tracks) {
+    let size = Size {
+        columns,
+        rows,
+        tracks,
+    };
+    let grid = match Grid::try_from(size) {
         Ok(grid) => grid,
         Err(refusal) => return Err(Unput::Turned(refusal)),
     };

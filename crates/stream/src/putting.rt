@@ -6,10 +6,10 @@ use bitstream::{Made, put};
 use design::encoded::Encoded;
 use design::refusal::Refusal;
 use fabric::grid::Grid;
-use fabric::parts::Pin;
+use fabric::parts::{Pin, Side};
+use fabric::size::Size;
 use listing::fault::Fault;
 use listing::parts::{Listing, Port};
-use listing::sides::side_at;
 use std::alloc::Global;
 
 // The most pins that are made room for: more than any fabric has.
@@ -68,7 +68,7 @@ fn pin(pins: &[u16], bit: usize) -> Pin {
     let side = number(pins, at.saturating_add(1));
     Pin {
         cell: number(pins, at),
-        side: side_at(side as usize),
+        side: Side::at(side as usize),
         track: number(pins, at.saturating_add(2)),
     }
 }
@@ -133,7 +133,11 @@ fn laid_out(heap: Global, grid: Grid, asked: Asked, design: &[u16]) -> Result<Li
 
 // The listing of a design on a fabric. The fabric is looked at first, then how many numbers there are, then each number.
 pub(crate) fn compiled(heap: Global, asked: Asked) -> Result<Listing, Fault> {
-    let grid = Grid::new(asked.columns, asked.rows, asked.tracks)?;
+    let grid = Grid::try_from(Size {
+        columns: asked.columns,
+        rows: asked.rows,
+        tracks: asked.tracks,
+    })?;
     let expected = expected_len(asked.numbers);
     if asked.numbers.len() as u64 != expected {
         return Err(Fault::Turned(Refusal::DesignLength { expected }));

@@ -7,6 +7,6 @@ use Rattle.fabric.proofs.grid.Grid.pad_place.Goals as goal
 pub returns : goal.returns
 unfolding pad_place pads_length
 returns c = record {
-  is = simp c.number.ensures.is;
-  inside = pad_below (cell_count (size_of c.args.self)) c.args.self.tracks c.args.cell c.number.result c.args.track c.requires.inside c.number.ensures.small c.requires.some;
+  is = simp c.from.ensures.0;
+  inside = pad_below (cell_count (size_of c.args.self)) c.args.self.tracks c.args.cell c.from.result c.args.track c.requires.inside c.from.ensures.1 c.requires.some;
 }

@@ -5,6 +5,6 @@ use Rattle.fabric.proofs.grid.Grid.track_place.Goals as goal
 
 pub returns : goal.returns
 returns c = record {
-  is = simp c.number.ensures.is;
-  inside = track_below (cell_count (size_of c.args.self)) c.args.self.tracks c.args.cell c.number.result c.args.track c.requires.inside c.number.ensures.small c.requires.some;
+  is = simp c.from.ensures.0;
+  inside = track_below (cell_count (size_of c.args.self)) c.args.self.tracks c.args.cell c.from.result c.args.track c.requires.inside c.from.ensures.1 c.requires.some;
 }

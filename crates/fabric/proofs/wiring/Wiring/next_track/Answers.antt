@@ -9,11 +9,11 @@ pub word-requires : goal.word-requires
 unfolding per_cell
 word-requires c = record {
   inside = c.requires.inside;
-  some = omega (arith, mul-add-lt c.number-number.result c.args.self.grid.tracks c.args.track 4 c.number-number.ensures.small c.requires.some);
+  some = omega (arith, mul-add-lt c.from-number.result c.args.self.grid.tracks c.args.track 4 c.from-number.ensures.1 c.requires.some);
 }
 
 pub returns : goal.returns
 returns c =
     drive_is (grid_of c.args.self) c.args.self.bits.now (pads_of c.args.self) (state_of (grid_of c.args.self) c.args.levels.now)
-    c.args.cell c.args.side c.args.track c.number-number.result c.word.result c.of-source.result c.read.result
-    c.word.ensures c.number-number.ensures.is c.of-source.ensures c.read.ensures
+    c.args.cell c.args.side c.args.track c.from-number.result c.word.result c.from-source.result c.read.result
+    c.word.ensures c.from-number.ensures.0 c.from-source.ensures c.read.ensures

@@ -1,7 +1,7 @@
 use Rattle.std.proofs.Common.{arith}
 use Rattle.std.proofs.lemmas.Bool.Decides.{nat_tests}
 use Rattle.fabric.specs.Numbers.{size_refusal, room_length, per_cell}
-use Rattle.fabric.proofs.grid.Grid.new.Goals as goal
+use Rattle.fabric.proofs.places.GridTryFromSize.try_from.Goals as goal
 
 pub returns-then-rows-eq0 : goal.returns-then-rows-eq0
 unfolding size_refusal
