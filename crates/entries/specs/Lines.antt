@@ -64,17 +64,9 @@ pub record SeatLine (words : List (Bor (List ℕ))) (line : ℕ) (seat : Seat) :
   pub pin : PinAt words 4 seat.pin
   pub line_said : seat.line ≡ line
 
--- a line that begins with cell, behind the cell's number
-abbrev pub CellSays : List (Bor (List ℕ)) → ℕ → Entry → Type 0
-CellSays words cell (Fabric rows columns tracks) = ⊥
-CellSays words cell (Table c table sources) = (c ≡ cell) × (word_at words 2 ≡ codes "table") × TableLine words table
-CellSays words cell (Holds c initial) = (c ≡ cell) × (word_at words 2 ≡ codes "holds") × HoldsLine words initial
-CellSays words cell (Drive c side track source) = (c ≡ cell) × (word_at words 2 ≡ side_word side) × DriveLine words track source
-CellSays words cell (Port seat) = ⊥
-
 -- the line of that number says the entry
 abbrev pub LineSays : List (Bor (List ℕ)) → ℕ → Entry → Type 0
-LineSays words line (Fabric rows columns tracks) = FabricLine words rows columns tracks
+LineSays words line (Fabric size) = FabricLine words size.rows size.columns size.tracks
 LineSays words line (Table cell table sources) = (word_at words 0 ≡ codes "cell") × Small (word_at words 1) (Some cell) × (word_at words 2 ≡ codes "table") × TableLine words table
 LineSays words line (Holds cell initial) = (word_at words 0 ≡ codes "cell") × Small (word_at words 1) (Some cell) × (word_at words 2 ≡ codes "holds") × HoldsLine words initial
 LineSays words line (Drive cell side track source) = (word_at words 0 ≡ codes "cell") × Small (word_at words 1) (Some cell) × (word_at words 2 ≡ side_word side) × DriveLine words track source

@@ -6,6 +6,7 @@ ghost use Rattle.entries.specs.Texts.{word_at};
 use crate::entry::{Direction, Entry, Seat};
 use crate::fields::{below_64, first_source, hex, is_name, small};
 use fabric::parts::{Pin, Source};
+use fabric::size::Size;
 use words::numbers::decimal_or_most;
 
 // The source that is all of these words.
@@ -82,11 +83,11 @@ pub fn read_entry<'a>(words: &[&'a str], line: usize) -> Option<Entry<'a>>
     ensures { IfSome result (λ e. LineSays words.now line e) }
 {
     match words {
-        ["fabric", rows, columns, tracks] => Some(Entry::Fabric {
+        ["fabric", rows, columns, tracks] => Some(Entry::Fabric(Size {
             rows: decimal_or_most(rows)?,
             columns: decimal_or_most(columns)?,
             tracks: decimal_or_most(tracks)?,
-        }),
+        })),
         ["in", ..] => port_line(words, Direction::In, line),
         ["out", ..] => port_line(words, Direction::Out, line),
         _ => cell_line(words, line),
