@@ -6,6 +6,7 @@ ghost use Rattle.listings.specs.Printed.{size_text};
 use crate::parts::{Listing, Port};
 use fabric::grid::Grid;
 use fabric::parts::{Side, Source};
+use pages::page::Page;
 use std::alloc::{AllocError, Global};
 use std::fmt;
 
@@ -129,17 +130,17 @@ impl Listing {
     #[tactic(auto, unfolding(fabric::specs::Numbers::per_cell))]
     fn print_rest(&self, heap: Global) -> Result<String, AllocError> {
         let grid = self.grid;
-        let mut text = String::new(heap);
+        let mut page = Page::new(heap);
         for (at, numbers) in self.room.chunks(grid.per_cell()).enumerate() {
-            write!(text, "{}", Cell { grid, at, numbers })?;
+            write!(page, "{}", Cell { grid, at, numbers });
         }
         for port in &self.inputs {
-            write!(text, "{}", PortLines { word: "in", port })?;
+            write!(page, "{}", PortLines { word: "in", port });
         }
         for port in &self.outputs {
-            write!(text, "{}", PortLines { word: "out", port })?;
+            write!(page, "{}", PortLines { word: "out", port });
         }
-        Ok(text)
+        page.done()
     }
 
     // The text: the fabric, and what follows it.

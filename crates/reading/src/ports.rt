@@ -79,10 +79,9 @@ impl<'a> DraftPorts<'a> {
     pub(crate) fn finished(&self, heap: Global) -> Result<Vec<Port>, Unread>
         ensures { IfErr result (λ u. Standing u) }
     {
-        let mut ports = Vec::new(heap);
-        for port in &self.ports {
-            ports.push(port.finished(heap)?)?;
-        }
-        Ok(ports)
+        self.ports
+            .iter()
+            .map(|port| port.finished(heap))
+            .try_collect(heap)
     }
 }
