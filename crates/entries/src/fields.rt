@@ -23,7 +23,7 @@ pub(crate) fn below_64(word: &str) -> Option<u16>
     small(word).filter(|n| *n < 64)
 }
 
-// The value of a lower-case hexadecimal digit.
+// The value of a lower-case hexadecimal digit. `to_digit` and `from_str_radix` take upper-case ones too, so they are no plainer here.
 fn hex_digit(b: u8) -> Option<u16>
     ensures is { result ≡ hex_value b }
     ensures below { IfSome result (λ d. d < 16) }

@@ -38,6 +38,7 @@ fn fill(room: &mut [Option<u16>], start: usize, said: &[u16]) -> Option<()> {
     Some(())
 }
 
+// The invariant can't say that a method leaves the grid as it was, so each method that changes a draft does.
 impl<'a> Draft<'a> {
     // Nothing is said yet.
     pub(crate) fn new(heap: Global, grid: Grid) -> Result<Draft<'a>, AllocError>

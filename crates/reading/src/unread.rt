@@ -11,7 +11,8 @@ pub enum Unread {
     Memory,
     // there is no fabric of the size that the first line says
     Size(Refusal),
-    // a line, counted from 0, that can't be read; it is formed as lines of a listing are and can't stand there, or else it isn't
+    // a line, counted from 0, that can't be read; it is formed as lines of a listing are and can't stand there, or else it isn't;
+    // one variant with a flag, since both are the same refusal of that line: two variants would be no plainer
     Line { line: usize, formed: bool },
 }
 
