@@ -1,2 +1,2 @@
-mod Decimals
 mod Digits
+mod Ends
