@@ -4,10 +4,10 @@ ghost use Rattle.std.specs.Prelude.{◌≡◌, ◌≤◌, false, length, is_ok};
 use crate::said::Said;
 use std::alloc::AllocError;
 use std::io::Read;
-use std::{fs, io};
+use std::{env, fs, io};
 
 // The program has said on standard error what is wrong.
-#[derive(Clone, Copy)]
+#[derive(Clone, Copy, Debug)]
 pub struct Failed;
 
 // Says what is wrong.
@@ -16,6 +16,21 @@ pub fn fail(rt: &HostRuntime, message: &str) -> Result<(), Failed>
 {
     let _ = rt.eprintln(message);
     Err(Failed) // also where that can't be printed
+}
+
+// The words of the command, the program's own name first.
+pub fn arguments(rt: &HostRuntime) -> Result<Vec<String>, Failed> {
+    let Ok(args) = env::args(rt) else {
+        let _ = rt.eprintln("the arguments can't be read");
+        return Err(Failed);
+    };
+    match args.collect(rt.alloc()) {
+        Ok(words) => Ok(words),
+        Err(_) => {
+            let _ = rt.eprintln("there isn't enough memory");
+            Err(Failed)
+        }
+    }
 }
 
 // A word of the command, or an empty one.

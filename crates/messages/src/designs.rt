@@ -115,15 +115,24 @@ fn print_layout(page: &mut Page, refusal: Refusal, asked: Asked) {
     }
 }
 
-// What is left: too little room for pins, and lists of another length.
+// What is left: lists of another length, too little room for pins, and what can't be had yet.
 fn print_other(page: &mut Page, refusal: Refusal) {
-    if let Refusal::Pins { needed } = refusal {
-        say(page, "the inputs and outputs have ", needed);
-        page.add(" bits, which is more than there is room for");
-    } else {
-        page.add(
+    match refusal.number() {
+        4 => page.add(
             "a list of numbers is of another length than the fabric has; that is a fault of this program",
-        );
+        ),
+        6 => {
+            say(page, "the inputs and outputs have ", refusal.place());
+            page.add(" bits, which is more than there is room for");
+        }
+        _ => {
+            say(
+                page,
+                "only single bits, inputs, registers, and, xor and fabrics of one row can be had yet; node ",
+                refusal.place(),
+            );
+            page.add(" is of another kind, or else a word is wider or the fabric has more rows");
+        }
     }
 }
 

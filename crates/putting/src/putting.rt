@@ -8,7 +8,7 @@ ghost use Rattle.putting.specs.Refusing.{asked_refusal, expected};
 use crate::pinning::ports;
 use crate::unput::Unput;
 use crate::widths::{bits, input_widths, output_widths};
-use bitstream_wide::{Made, put};
+use bitstream::{Made, put};
 use design::encoded::Encoded;
 use design::refusal::Refusal;
 use fabric::grid::Grid;
