@@ -27,19 +27,25 @@ const NO_TEXTS: &str =
 const USAGE: &str =
     "write: compile --numbers FILE fabric ROWS COLUMNS TRACKS (compile --help says more)";
 
-// compile --numbers FILE fabric ROWS COLUMNS TRACKS
-fn compile_file(rt: &HostRuntime, file: &str, size: Size) -> Result<(), Failed> {
-    let design = load(rt, file)?;
-    say(rt, compile(rt.alloc(), size, design.as_slice()))
+// Rows, columns and tracks.
+fn size_of(rows: &str, columns: &str, tracks: &str) -> Option<(u64, u64, u64)> {
+    let rows = decimal_or_most(rows)?;
+    let columns = decimal_or_most(columns)?;
+    let tracks = decimal_or_most(tracks)?;
+    Some((rows, columns, tracks))
 }
 
-// The size that three words say.
-fn size_of(rows: &str, columns: &str, tracks: &str) -> Option<Size> {
-    Some(Size {
-        rows: decimal_or_most(rows)?,
-        columns: decimal_or_most(columns)?,
-        tracks: decimal_or_most(tracks)?,
-    })
+// compile --numbers FILE fabric ROWS COLUMNS TRACKS
+fn compile_file(
+    rt: &HostRuntime,
+    file: &str,
+    (rows, columns, tracks): (u64, u64, u64),
+) -> Result<(), Failed> {
+    let design = load(rt, file)?;
+    say(
+        rt,
+        compile(rt.alloc(), rows, columns, tracks, design.as_slice()),
+    )
 }
 
 // What `compile` does with its words, its own name first; with none but that it fails. Where it fails, it has said why on
@@ -50,8 +56,7 @@ pub fn run(rt: &HostRuntime, words: &[String]) -> Result<(), Failed>
     match words {
         [_, help, ..] if help.as_str() == "--help" => print(rt, HELP),
         [_, numbers, file, fabric, rows, columns, tracks]
-            if numbers.as_str() == "--numbers" && fabric.as_str() == "fabric" =>
-        {
+            if numbers.as_str() == "--numbers" && fabric.as_str() == "fabric" => {
             match size_of(rows.as_str(), columns.as_str(), tracks.as_str()) {
                 Some(size) => compile_file(rt, file.as_str(), size),
                 None => fail(rt, USAGE),

@@ -18,10 +18,7 @@ use std::alloc::{AllocError, Global};
 fn printed(heap: Global, listing: &Listing) -> Result<Said, AllocError>
     ensures { IfOk result (λ s. size_refusal (size_of listing.now.grid) ≡ None → SaysCompiled (size_of listing.now.grid) s) }
 {
-    match listing.print(heap) {
-        Ok(text) => Ok(Said::Answer(text)),
-        Err(_) => Err(AllocError),
-    }
+    Ok(Said::Answer(listing.print(heap)?))
 }
 
 // Puts a design on a fabric.

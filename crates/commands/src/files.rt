@@ -10,28 +10,31 @@ use std::{env, fs, io};
 #[derive(Clone, Copy, Debug, PartialEq, Eq)]
 pub struct Failed;
 
+// Says what is wrong, where that can be printed.
+fn report(rt: &HostRuntime, message: &str) -> Failed {
+    let _ = rt.eprintln(message);
+    Failed
+}
+
 // Says what is wrong.
-pub fn fail<T>(rt: &HostRuntime, message: &str) -> Result<T, Failed>
+pub fn fail(rt: &HostRuntime, message: &str) -> Result<(), Failed>
     ensures { is_ok result ≡ false }
 {
-    let _ = rt.eprintln(message);
-    Err(Failed) // also where that can't be printed
+    Err(report(rt, message))
 }
 
 // The words of the command, the program's own name first.
 pub fn arguments(rt: &HostRuntime) -> Result<Vec<String>, Failed> {
-    let Ok(words) = env::args(rt) else {
-        return fail(rt, "the arguments can't be read");
-    };
+    let words = env::args(rt).map_err(|_| report(rt, "the arguments can't be read"))?;
     words
         .collect(rt.alloc())
-        .or_else(|_| fail(rt, "there isn't enough memory"))
+        .map_err(|_| report(rt, "there isn't enough memory"))
 }
 
 // Prints a text.
 pub(crate) fn print(rt: &HostRuntime, text: &str) -> Result<(), Failed> {
     rt.print(text)
-        .or_else(|_| fail(rt, "can't write to standard output"))
+        .map_err(|_| report(rt, "can't write to standard output"))
 }
 
 // All of a file, or of standard input for `-`.

@@ -14,7 +14,12 @@ fn write_size<W: fmt::Write>(
     refusal: Refusal,
     asked: Asked,
 ) -> fmt::Result {
-    let Asked { rows, columns, tracks, .. } = asked;
+    let Asked {
+        rows,
+        columns,
+        tracks,
+        ..
+    } = asked;
     let hint = size_hint(refusal);
     write!(f, "\"fabric {rows} {columns} {tracks}\" {hint}")
 }

@@ -81,7 +81,8 @@ pub(crate) fn size_hint(refusal: Refusal) -> &'static str {
         Refusal::Rows => "asks for rows that can't be had: a fabric has 1 to 32 of them",
         Refusal::Columns => "asks for columns that can't be had: a fabric has 1 to 32 of them",
         Refusal::Tracks => "asks for tracks that can't be had: a fabric has 1 to 64 of them",
-        _ => "is too large: rows times columns times (22 + 4 times the tracks) may be 32000 at most",
+        _ =>
+            "is too large: rows times columns times (22 + 4 times the tracks) may be 32000 at most",
     }
 }
 

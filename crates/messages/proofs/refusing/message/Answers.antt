@@ -18,5 +18,5 @@ pub returns : goal.returns
 returns c =
     IfOk-weaker _ _ _
     (λ s e. begun (string_bytes s) (string_bytes c.in_ok-words.words) _ c.number-number.result c.place-place.result
-        (c.number-number.ensures ∙ ap number_of c.refusal-refusal.ensures) (c.place-place.ensures ∙ ap place_of c.refusal-refusal.ensures) e)
+    (c.number-number.ensures ∙ ap number_of c.refusal-refusal.ensures) (c.place-place.ensures ∙ ap place_of c.refusal-refusal.ensures) e)
     c.format-2.ensures.ok

@@ -1,4 +1,4 @@
-use Rattle.std.proofs.Common.{◌+◌, ◌*◌, ◌<◌, arith, rules}
+use Rattle.std.proofs.Common.{arith, rules}
 use Rattle.fabric.specs.Numbers.{per_cell}
 use Rattle.streams.proofs.state.initial.Goals as goal
 
