@@ -8,3 +8,5 @@ pub mod Ranks
 pub mod Refusing
 pub mod Ticks
 pub mod Implementation
+pub mod Existence
+pub mod Runs

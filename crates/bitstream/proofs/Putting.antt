@@ -11,18 +11,19 @@ use Rattle.fabric.specs.declared.parts.Source.TheVariants.{Nothing}
 use Rattle.fabric.specs.Fabrics.{Size, cell_count}
 use Rattle.fabric.specs.Numbers.{side_number, per_cell, config_in, PinAt}
 use Rattle.fabric.proofs.Coding.{side_number_small}
-use Rattle.netlist.specs.declared.parts.Net.{Net}
-use Rattle.netlist.specs.declared.parts.Net.TheVariants.{Zero, Input, Cell}
+use Rattle.netlist.specs.declared.parts.Net.TheVariants.{Zero}
 use Rattle.netlist.specs.declared.parts.Cell.{Cell as CellT}
-use Rattle.netlist.specs.Building.{blank, cell_at, input_of}
-use Rattle.netlist.specs.Shapes.{netlist_of}
-use Rattle.route.specs.Nets.{Exists}
+use Rattle.netlist.specs.declared.netlists.Netlist.{Netlist as NetlistT}
+use Rattle.netlist.specs.Building.{blank, cell_at, input_of, Lowering}
+use Rattle.netlist.specs.Lowerings.{netlist_of}
+use Rattle.route.specs.declared.plain.Plain.{Plain}
 use Rattle.route.specs.Layouts.{Realizes}
 use Rattle.route.specs.Plain.{plain_source, plain_layout, PlainConfig}
 use Rattle.route.proofs.Laid.{plain_realizes}
 use Rattle.bitstream.specs.declared.plans.Plan.{Plan}
+use Rattle.bitstream.specs.Fitting.{standing, NetsExist, OutputsExist}
 use Rattle.bitstream.specs.Puts.{pin_count, Puts}
-use Rattle.bitstream.specs.Plans.{grid_of, inputs_of, count_of, cell_of, NetsExist, OutputsExist, Planned, NumberAt, CellsWritten, PinsWritten}
+use Rattle.bitstream.specs.Plans.{grid_of, inputs_of, cell_of, Plans, NumberAt, CellsWritten, PinsWritten}
 use Rattle.bitstream.specs.Theorem.{input_pins, output_pins}
 use Rattle.bitstream.proofs.Implementation.{layouts_implement}
 use Rattle.bitstream.proofs.Pins.{pin_in, pin_out}
@@ -31,18 +32,13 @@ use Rattle.bitstream.proofs.Ticks.{input_within, output_within}
 abbrev above_pin : ℕ → Pin
 above_pin t = record { cell = 0; side = Above; track = t }
 
--- the nets of a cell are there
-exists_net : (i n : ℕ) (net : Net) → ((j : ℕ) → net ≡ Cell j → j < n) → ((j : ℕ) → net ≡ Input j → j < i) → Exists i n net
-exists_net i n Zero c h = tt
-exists_net i n (Input j) c h = h j refl
-exists_net i n (Cell j) c h = c j refl
-
-blank_exists : (i n k : ℕ) → k < 4 → Exists i n (input_of blank k)
-blank_exists i n zero h = tt
-blank_exists i n (suc zero) h = tt
-blank_exists i n (suc (suc zero)) h = tt
-blank_exists i n (suc (suc (suc zero))) h = tt
-blank_exists i n (suc (suc (suc (suc k)))) h = absurd (omega arith)
+-- a cell that shows 0 reads nothing
+blank_net : (k : ℕ) → k < 4 → input_of blank k ≡ Zero
+blank_net zero h = refl
+blank_net (suc zero) h = refl
+blank_net (suc (suc zero)) h = refl
+blank_net (suc (suc (suc zero))) h = refl
+blank_net (suc (suc (suc (suc k)))) h = absurd (omega arith)
 
 -- a cell that shows 0
 blank_table : (k : ℕ) → word 0 k ≡ false
@@ -51,11 +47,7 @@ blank_table k = rw zero-div refl
 
 blank_input : (z : Size) (i c k : ℕ) → k < 4 → plain_source z i c (input_of blank k) ≡ Nothing
 unfolding plain_source
-blank_input z i c zero h = refl
-blank_input z i c (suc zero) h = refl
-blank_input z i c (suc (suc zero)) h = refl
-blank_input z i c (suc (suc (suc zero))) h = refl
-blank_input z i c (suc (suc (suc (suc k)))) h = absurd (omega arith)
+blank_input z i c k h = ap (plain_source z i c) (blank_net k h)
 
 number_same : (z : Size) (i i₁ n n₁ : ℕ) (cell : CellT) (c j x : ℕ) → i ≡ i₁ → n ≡ n₁ → NumberAt z i n cell c j x → NumberAt z i₁ n₁ cell c j x
 number_same z i i₁ n n₁ cell c j x e f h = rw (← e, ← f) h
@@ -73,26 +65,32 @@ unfolding per_cell
 side_small z s t h =
     omega (arith, mul-le-mul_right z.tracks (let q : side_number s + 1 ≤ 4 = omega (arith, side_number_small s) in q), add-mul (side_number s) 1 z.tracks)
 
-module _ (d : Design) (p : Plan) (pl : Planned d p) where
-  used : (c : ℕ) → c < p.netlist.count → cell_of p c ≡ cell_at p.netlist.cells c
-  used c h = rw (lt-ltb c p.netlist.count h) refl
+-- a netlist and a layout for the design
+module _ (d : Design) (n : NetlistT) (r : Plain) (lowered : Lowering d (netlist_of n)) (inputs : r.inputs ≡ input_bits d) (count : r.placement.count ≡ n.count) where
+  used : (c : ℕ) → c < n.count → standing n c ≡ cell_at n.cells c
+  used c h = rw (lt-ltb c n.count h) refl
 
-  unused : (c : ℕ) → p.netlist.count ≤ c → cell_of p c ≡ blank
-  unused c h = rw (le-ltb c p.netlist.count h) refl
+  unused : (c : ℕ) → n.count ≤ c → standing n c ≡ blank
+  unused c h = rw (le-ltb c n.count h) refl
 
-  pub nets_exist : NetsExist p
-  nets_exist c k h = ⊎_elim
-      (λ l. rw (used c l) (exists_net (inputs_of p) (count_of p) (input_of (cell_at p.netlist.cells c) k)
-      (λ j q. omega (arith, pl.lowered.lowers.cells_exist c k j l h q, pl.count))
-      (λ j q. omega (arith, pl.lowered.lowers.inputs_exist c k j l h q, pl.inputs))))
-      (λ l. rw (unused c l) (blank_exists (inputs_of p) (count_of p) k h))
-      (cases_lt c p.netlist.count)
+  pub nets_exist : NetsExist n r
+  nets_exist c k j h = ⊎_elim
+      (λ l. rw (used c l) (λ q. omega (arith, lowered.lowers.inputs_exist c k j l h q), λ q. omega (arith, lowered.lowers.cells_exist c k j l h q)))
+      (λ l. rw (unused c l, blank_net k h) (λ q. absurd cc, λ q. absurd cc))
+      (cases_lt c n.count)
 
-  pub outputs_exist : OutputsExist p
+  pub outputs_exist : (pins : ℕ) → pins ≡ pin_count d → output_bits d ≤ 1024 → OutputsExist n r pins
   unfolding pin_count
-  outputs_exist m h =
-      let l : m < output_bits d = omega (arith, pl.inputs, pl.pins) in
-      (omega (arith, pl.few), omega (arith, pl.lowered.outputs m l, pl.count))
+  outputs_exist pins e few m h =
+      let l : m < output_bits d = omega arith in
+      (omega arith, omega (arith, lowered.outputs m l))
+
+module _ (d : Design) (p : Plan) (pl : Plans d p) where
+  stands : (c : ℕ) → c < p.netlist.count → cell_of p c ≡ cell_at p.netlist.cells c
+  stands = used d p.netlist p.routing pl.lowered pl.inputs pl.count
+
+  stands_blank : (c : ℕ) → p.netlist.count ≤ c → cell_of p c ≡ blank
+  stands_blank = unused d p.netlist p.routing pl.lowered pl.inputs pl.count
 
   module _ (room : List ℕ) (written : CellsWritten p (cell_count (grid_of p)) room) where
     -- a number of the room, as the plan has it
@@ -106,15 +104,15 @@ module _ (d : Design) (p : Plan) (pl : Planned d p) where
     configured : PlainConfig (netlist_of p.netlist) (grid_of p) (input_bits d) (config_in (grid_of p) room)
     unfolding config_in
     configured = record {
-      table = λ c k l h. (at_cell c k (room_for c l) (small (grid_of p) k (omega arith))).table h ∙ ap (λ (x : CellT). word x.table k) (used c l);
-      input = λ c k l h. (at_cell c (16 + k) (room_for c l) (small (grid_of p) (16 + k) (omega arith))).input k h refl ∙ ap (λ (x : CellT). plain_source (grid_of p) (input_bits d) c (input_of x k)) (used c l);
-      holds = λ c l. (at_cell c 20 (room_for c l) (small (grid_of p) 20 (omega arith))).holds refl ∙ ap (λ (x : CellT). x.holds) (used c l);
-      initial = λ c l. (at_cell c 21 (room_for c l) (small (grid_of p) 21 (omega arith))).initial refl ∙ ap (λ (x : CellT). x.initial) (used c l);
+      table = λ c k l h. (at_cell c k (room_for c l) (small (grid_of p) k (omega arith))).table h ∙ ap (λ (x : CellT). word x.table k) (stands c l);
+      input = λ c k l h. (at_cell c (16 + k) (room_for c l) (small (grid_of p) (16 + k) (omega arith))).input k h refl ∙ ap (λ (x : CellT). plain_source (grid_of p) (input_bits d) c (input_of x k)) (stands c l);
+      holds = λ c l. (at_cell c 20 (room_for c l) (small (grid_of p) 20 (omega arith))).holds refl ∙ ap (λ (x : CellT). x.holds) (stands c l);
+      initial = λ c l. (at_cell c 21 (room_for c l) (small (grid_of p) 21 (omega arith))).initial refl ∙ ap (λ (x : CellT). x.initial) (stands c l);
       blank = λ c low h. record {
-        table = λ k l. (at_cell c k h (small (grid_of p) k (omega arith))).table l ∙ ap (λ (x : CellT). word x.table k) (unused c low) ∙ blank_table k;
+        table = λ k l. (at_cell c k h (small (grid_of p) k (omega arith))).table l ∙ ap (λ (x : CellT). word x.table k) (stands_blank c low) ∙ blank_table k;
         inputs = λ k l. (at_cell c (16 + k) h (small (grid_of p) (16 + k) (omega arith))).input k l refl
-            ∙ ap (λ (x : CellT). plain_source (grid_of p) (input_bits d) c (input_of x k)) (unused c low) ∙ blank_input (grid_of p) (input_bits d) c k l;
-        holds = (at_cell c 20 h (small (grid_of p) 20 (omega arith))).holds refl ∙ ap (λ (x : CellT). x.holds) (unused c low);
+            ∙ ap (λ (x : CellT). plain_source (grid_of p) (input_bits d) c (input_of x k)) (stands_blank c low) ∙ blank_input (grid_of p) (input_bits d) c k l;
+        holds = (at_cell c 20 h (small (grid_of p) 20 (omega arith))).holds refl ∙ ap (λ (x : CellT). x.holds) (stands_blank c low);
       };
       drive = λ c s t h l. (at_cell c (22 + (side_number s * (grid_of p).tracks + t)) h (side_small (grid_of p) s t l)).drive s t l refl;
     }

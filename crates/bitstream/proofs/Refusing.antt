@@ -1,27 +1,30 @@
 -- Which refusal is answered.
-use Rattle.std.proofs.Common.{◌≡◌, ℕ, zero, suc, ◌+◌, ◌*◌, ◌<◌, ◌≤◌, min, Bool, true, false, not, eqb, ltb, ◌⊎◌, List, length, Some, None, Option, sym, refl, ◌∙◌, inl, inr, arith, MatchOption}
+use Rattle.std.proofs.Common.{◌≡◌, ℕ, ◌+◌, ◌*◌, ◌<◌, ◌≤◌, min, Bool, true, false, eqb, ltb, ◌⊎◌, List, length, Ok, Err, Some, None, Option, Result, sym, refl, ap, ◌∙◌, subst, inr, arith, MatchOption}
 use Rattle.std.specs.Option.{option_or}
 use Rattle.std.specs.Bool.{then_some}
 use Rattle.std.proofs.lemmas.Nat.{mul-le}
-use Rattle.std.proofs.lemmas.Bool.{lt-ltb, le-ltb, ltb-false, ne_eqb, eq-eqb, eqb-true}
+use Rattle.std.proofs.lemmas.Bool.{lt-ltb, le-ltb, ltb-false, ne_eqb, eq-eqb}
 use Rattle.design.specs.declared.refusal.Refusal.{Refusal}
 use Rattle.design.specs.declared.refusal.Refusal.TheVariants.{RoomLength, Pins, Cells, NetTracks, NotYet}
 use Rattle.design.specs.declared.counts.Counts.{Counts}
-use Rattle.design.specs.Designs.{Design, total, output_width, output_cells, input_bits, output_bits, plain_cells, plain_tracks}
+use Rattle.design.specs.Designs.{Design, output_width, output_cells, input_bits, output_bits, plain_cells, plain_tracks}
 use Rattle.design.specs.Numbers.{nodes_of, design_in, reading_refusal, soundness_refusal}
-use Rattle.design.specs.Encodings.{Counted}
+use Rattle.design.specs.Encodings.{list_of, design_of, Counted}
 use Rattle.fabric.specs.declared.grid.Grid.{Grid}
 use Rattle.fabric.specs.Fabrics.{Size, cell_count}
 use Rattle.fabric.specs.Numbers.{room_length, size_refusal}
 use Rattle.fabric.specs.Code.{size_of}
+use Rattle.netlist.specs.Lowerings.{words_refusal}
 use Rattle.netlist.specs.NotYet.{lowering_refusal}
-use Rattle.netlist.specs.Shapes.{lower_refusal}
-use Rattle.netlist.proofs.Whole.{passes_on}
+use Rattle.netlist.proofs.Whole.{refuses_none}
 use Rattle.design.proofs.Reading.{neither}
+use Rattle.netlist.proofs.Totals.{total_below}
 use Rattle.route.specs.Nets.{Room}
 use Rattle.bitstream.specs.declared.Made.{Made}
-use Rattle.bitstream.specs.Puts.{pin_count, put_refusal, plain_refusal, not_yet, Refuses, Places, PutSays}
-use Rattle.bitstream.specs.Plans.{later_answer, put_answer}
+use Rattle.bitstream.specs.declared.plans.Request.{Request}
+use Rattle.bitstream.specs.declared.plans.Plan.{Plan}
+use Rattle.bitstream.specs.Puts.{pin_count, put_refusal, plain_refusal, not_yet, Refuses, Places, PutSays, PutWordsSays}
+use Rattle.bitstream.specs.Plans.{words_answer, put_answer, Accepts, Plans, Planned, PlanSays, CarriesOut}
 
 pub few_cells : (g : Grid) → cell_count (size_of g) ≤ 1024
 few_cells g = mul-le g.columns g.rows 32 32 g.few_columns g.few_rows
@@ -56,22 +59,17 @@ whole : (a b c e : ℕ) (x y : Refusal) → option_or (then_some (ltb a b) x) (t
 whole a b c e x y h = go (ltb a b) (ltb c e) refl refl h
   where
     go : (p q : Bool) → ltb a b ≡ p → ltb c e ≡ q → option_or (then_some p x) (then_some q y) ≡ None → (b ≤ a) × (e ≤ c)
-    go true q ep eq h = absurd (let z : ◌≡◌ {A = ℕ} 0 1 = cc in omega arith)
-    go false true ep eq h = absurd (let z : ◌≡◌ {A = ℕ} 0 1 = cc in omega arith)
+    go true q ep eq h = absurd cc
+    go false true ep eq h = absurd cc
     go false false ep eq h = (ltb-false a b ep, ltb-false c e eq)
 
 pub has_room : (z : Size) (d : Design) → plain_refusal z d ≡ None → (plain_cells d ≤ cell_count z) × (plain_tracks d ≤ z.tracks)
 unfolding plain_refusal
 has_room z d h = whole _ _ _ _ _ _ h
 
-total_below : (n : ℕ) (f g : ℕ → ℕ) → ((i : ℕ) → f i ≤ g i) → total n f ≤ total n g
-unfolding total
-total_below zero f g h = omega arith
-total_below (suc n) f g h = omega (arith, total_below n f g h, h n)
-
 pub outputs_below : (d : Design) → output_bits d ≤ plain_cells d
 unfolding output_bits plain_cells output_cells
-outputs_below d = omega (arith, total_below d.outputs (output_width d) (output_cells d) (λ o. omega arith))
+outputs_below d = omega (arith, total_below (output_width d) (output_cells d) d.outputs (λ o h. omega arith))
 
 tracks_are : (d : Design) → plain_tracks d ≡ plain_cells d + input_bits d
 unfolding plain_tracks
@@ -83,128 +81,130 @@ inputs_below z d h = omega (arith, (has_room z d h).1, tracks_are d)
 pub plain_room : (z : Size) (d : Design) (i n : ℕ) → plain_refusal z d ≡ None → i ≡ input_bits d → n ≤ plain_cells d → Room z i n
 plain_room z d i n h e l = record { cells = omega (arith, (has_room z d h).0); tracks = omega (arith, (has_room z d h).1, tracks_are d) }
 
--- refusals 7 and 9
-pub later_plain : (z : Size) (xs : List ℕ) (f : Refusal) → plain_refusal z (design_in xs) ≡ Some f → later_answer z xs ≡ Some f
-unfolding later_answer
-later_plain z xs f h = rw h refl
+-- a design for which the plain layout has room is lowered
+lowers_then : (g : Grid) (xs : List ℕ) → plain_refusal (size_of g) (design_in xs) ≡ None → soundness_refusal (design_in xs) ≡ None → words_refusal xs ≡ None
+lowers_then g xs p s =
+    let r = has_room (size_of g) (design_in xs) p in
+    refuses_none xs (min 65536 (plain_cells (design_in xs))) (min 65536 (plain_tracks (design_in xs))) s refl (omega (arith, r.0, few_cells g)) refl (omega (arith, r.1, g.few_tracks))
 
-lower_is : (g : Grid) (xs : List ℕ) → plain_refusal (size_of g) (design_in xs) ≡ None → soundness_refusal (design_in xs) ≡ None → lower_refusal xs ≡ lowering_refusal xs
-lower_is g xs p s = passes_on xs (min 65536 (plain_cells (design_in xs))) s refl (omega (arith, (has_room (size_of g) (design_in xs) p).0, few_cells g))
+pub lowers_surely : (g : Grid) (xs : List ℕ) (f : Refusal) → plain_refusal (size_of g) (design_in xs) ≡ None → soundness_refusal (design_in xs) ≡ None → words_refusal xs ≡ Some f → ⊥
+lowers_surely g xs f p s h = let n = lowers_then g xs p s in cc
 
-module _ (g : Grid) (xs : List ℕ) (p : plain_refusal (size_of g) (design_in xs) ≡ None) (s : soundness_refusal (design_in xs) ≡ None) where
-  pub later_lowering : (f : Refusal) → lower_refusal xs ≡ Some f → later_answer (size_of g) xs ≡ Some f
-  unfolding later_answer not_yet
-  later_lowering f h = let l : lowering_refusal xs ≡ Some f = sym (lower_is g xs p s) ∙ h in rw (p, l) refl
-
-  pub later_rows : (n : ℕ) → lower_refusal xs ≡ None → (g.rows ≡ 1 → ⊥) → n ≡ nodes_of xs → later_answer (size_of g) xs ≡ Some (NotYet n)
-  unfolding later_answer not_yet
-  later_rows n h r e =
-      let l : lowering_refusal xs ≡ None = sym (lower_is g xs p s) ∙ h in
-      let q : eqb g.rows 1 ≡ false = ne_eqb _ 1 r in
-      rw (p, l, q, e) refl
-
-  pub later_none : lower_refusal xs ≡ None → g.rows ≡ 1 → later_answer (size_of g) xs ≡ None
-  unfolding later_answer not_yet
-  later_none h r =
-      let l : lowering_refusal xs ≡ None = sym (lower_is g xs p s) ∙ h in
-      let q : eqb g.rows 1 ≡ true = eq-eqb _ 1 r in
-      rw (p, l, q) refl
-
--- refusals 1 to 6, and then the others
+-- refusals 1 to 6
 module _ (z : Size) (xs room pins : List ℕ) where
-  pub answers_size : (f : Refusal) → size_refusal z ≡ Some f → put_answer z xs room pins ≡ Some f
-  unfolding put_answer put_refusal
-  answers_size f h = rw h refl
+  pub refuses_size : (f : Refusal) → size_refusal z ≡ Some f → put_refusal z xs room pins ≡ Some f
+  unfolding put_refusal
+  refuses_size f h = rw h refl
 
-  pub answers_reading : (f : Refusal) → size_refusal z ≡ None → reading_refusal xs ≡ Some f → put_answer z xs room pins ≡ Some f
-  unfolding put_answer put_refusal
-  answers_reading f a h = rw (a, h) refl
+  module _ (a : size_refusal z ≡ None) where
+    pub refuses_reading : (f : Refusal) → reading_refusal xs ≡ Some f → put_refusal z xs room pins ≡ Some f
+    unfolding put_refusal
+    refuses_reading f h = rw (a, h) refl
 
-  pub answers_room : size_refusal z ≡ None → reading_refusal xs ≡ None → (length room ≡ room_length z → ⊥) → put_answer z xs room pins ≡ Some RoomLength
-  unfolding put_answer put_refusal
-  answers_room a b h = let q : eqb (length room) (room_length z) ≡ false = ne_eqb _ _ h in rw (a, b, q) refl
+    module _ (b : reading_refusal xs ≡ None) where
+      pub refuses_room : (length room ≡ room_length z → ⊥) → put_refusal z xs room pins ≡ Some RoomLength
+      unfolding put_refusal
+      refuses_room h = let q : eqb (length room) (room_length z) ≡ false = ne_eqb _ _ h in rw (a, b, q) refl
 
-  pub answers_unsound : (f : Refusal) → size_refusal z ≡ None → reading_refusal xs ≡ None → length room ≡ room_length z → soundness_refusal (design_in xs) ≡ Some f → put_answer z xs room pins ≡ Some f
-  unfolding put_answer put_refusal
-  answers_unsound f a b r h = let q : eqb (length room) (room_length z) ≡ true = eq-eqb _ _ r in rw (a, b, q, h) refl
+      module _ (r : length room ≡ room_length z) where
+        pub refuses_unsound : (f : Refusal) → soundness_refusal (design_in xs) ≡ Some f → put_refusal z xs room pins ≡ Some f
+        unfolding put_refusal
+        refuses_unsound f h = let q : eqb (length room) (room_length z) ≡ true = eq-eqb _ _ r in rw (a, b, q, h) refl
 
-  module _ (a : size_refusal z ≡ None) (b : reading_refusal xs ≡ None) (r : length room ≡ room_length z) (s : soundness_refusal (design_in xs) ≡ None) where
-    pub answers_pins : (n : ℕ) → n ≡ pin_count (design_in xs) → length pins < 3 * n → put_answer z xs room pins ≡ Some (Pins n)
-    unfolding put_answer put_refusal
-    answers_pins n e h =
-        let q : eqb (length room) (room_length z) ≡ true = eq-eqb _ _ r in
-        let t : ltb (length pins) (3 * pin_count (design_in xs)) ≡ true = lt-ltb _ _ (omega arith) in
-        rw (a, b, q, s, t, e) refl
+        module _ (s : soundness_refusal (design_in xs) ≡ None) (n : ℕ) (e : n ≡ pin_count (design_in xs)) where
+          pub refuses_pins : length pins < 3 * n → put_refusal z xs room pins ≡ Some (Pins n)
+          unfolding put_refusal
+          refuses_pins h =
+              let q : eqb (length room) (room_length z) ≡ true = eq-eqb _ _ r in
+              let t : ltb (length pins) (3 * pin_count (design_in xs)) ≡ true = lt-ltb _ _ (omega arith) in
+              rw (a, b, q, s, t, e) refl
 
-    pub answers_later : (n : ℕ) → n ≡ pin_count (design_in xs) → 3 * n ≤ length pins → put_answer z xs room pins ≡ later_answer z xs
-    unfolding put_answer put_refusal
-    answers_later n e h =
-        let q : eqb (length room) (room_length z) ≡ true = eq-eqb _ _ r in
-        let t : ltb (length pins) (3 * pin_count (design_in xs)) ≡ false = le-ltb _ _ (omega arith) in
-        rw (a, b, q, s, t) refl
+          pub refuses_nothing : 3 * n ≤ length pins → put_refusal z xs room pins ≡ None
+          unfolding put_refusal
+          refuses_nothing h =
+              let q : eqb (length room) (room_length z) ≡ true = eq-eqb _ _ r in
+              let t : ltb (length pins) (3 * pin_count (design_in xs)) ≡ false = le-ltb _ _ (omega arith) in
+              rw (a, b, q, s, t) refl
 
 -- how many pins there are
 pub pins_are : (d : Design) (k : Counts) → Counted d k → k.input_bits + k.output_bits ≡ pin_count d
 unfolding pin_count
 pins_are d k counted = omega (arith, counted.inputs, counted.outputs)
 
-pub later_same : (z z₁ : Size) (xs xs₁ : List ℕ) → z ≡ z₁ → xs ≡ xs₁ → later_answer z xs ≡ later_answer z₁ xs₁
-later_same z z₁ xs xs₁ e f = rw (e, f) refl
+-- refusal 9
+pub refuses_lowering : (z : Size) (xs : List ℕ) (f : Refusal) → lowering_refusal xs ≡ Some f → not_yet z xs ≡ Some f
+unfolding not_yet
+refuses_lowering z xs f h = rw h refl
 
--- what `put` says, from the refusal that the program answers
-module _ (P : Refusal → Type 0) (Q : Type 0) where
-  says_refused : (a b c : Option Refusal) (f : Refusal) → option_or a (option_or b c) ≡ Some f → P f → MatchOption a (MatchOption b (MatchOption c Q P) (λ f. Q ⊎ P f)) P
-  says_refused (Some x) b c f h p = let e : f ≡ x = cc in rw e at p
-  says_refused None (Some x) c f h p = let e : f ≡ x = cc in inr (rw e at p)
-  says_refused None None (Some x) f h p = let e : f ≡ x = cc in rw e at p
-  says_refused None None None f h p = absurd (let z : ◌≡◌ {A = ℕ} 0 1 = cc in omega arith)
+pub refuses_rows : (z : Size) (xs : List ℕ) (n : ℕ) → lowering_refusal xs ≡ None → (z.rows ≡ 1 → ⊥) → n ≡ nodes_of xs → not_yet z xs ≡ Some (NotYet n)
+unfolding not_yet
+refuses_rows z xs n h r e = let q : eqb z.rows 1 ≡ false = ne_eqb _ 1 r in rw (h, q, e) refl
 
-  says_placed : (a b c : Option Refusal) → option_or a (option_or b c) ≡ None → Q → MatchOption a (MatchOption b (MatchOption c Q P) (λ f. Q ⊎ P f)) P
-  says_placed (Some x) b c h q = absurd (let z : ◌≡◌ {A = ℕ} 0 1 = cc in omega arith)
-  says_placed None (Some x) c h q = inl q
-  says_placed None None (Some x) h q = absurd (let z : ◌≡◌ {A = ℕ} 0 1 = cc in omega arith)
-  says_placed None None None h q = q
+pub landed_by_now : (z : Size) (xs : List ℕ) → lowering_refusal xs ≡ None → z.rows ≡ 1 → not_yet z xs ≡ None
+unfolding not_yet
+landed_by_now z xs h r = let q : eqb z.rows 1 ≡ true = eq-eqb _ 1 r in rw (h, q) refl
 
-pub refused_says : (z : Size) (xs room pins room₁ pins₁ : List ℕ) (r : Made) (f : Refusal) → put_answer z xs room pins ≡ Some f → Refuses room pins r room₁ pins₁ f → PutSays z xs room pins r room₁ pins₁
-unfolding put_answer later_answer
-refused_says z xs room pins room₁ pins₁ r f h p =
-    says_refused (Refuses room pins r room₁ pins₁) (Places xs z room pins r room₁ pins₁) (put_refusal z xs room pins) (plain_refusal z (design_in xs)) (not_yet z xs) f h p
+-- a plan for a request that is accepted
+module _ (z : Size) (xs room pins : List ℕ) where
+  pub words_first : (f : Refusal) → put_refusal z xs room pins ≡ Some f → words_answer z xs room pins ≡ Some f
+  unfolding words_answer
+  words_first f h = rw h refl
 
-pub placed_says : (z : Size) (xs room pins room₁ pins₁ : List ℕ) (r : Made) → put_answer z xs room pins ≡ None → Places xs z room pins r room₁ pins₁ → PutSays z xs room pins r room₁ pins₁
-unfolding put_answer later_answer
-placed_says z xs room pins room₁ pins₁ r h q =
-    says_placed (Refuses room pins r room₁ pins₁) (Places xs z room pins r room₁ pins₁) (put_refusal z xs room pins) (plain_refusal z (design_in xs)) (not_yet z xs) h q
+  pub put_first : (f : Refusal) → words_answer z xs room pins ≡ Some f → put_answer z xs room pins ≡ Some f
+  unfolding put_answer
+  put_first f h = rw h refl
 
--- what it says that nothing is refused
-five : (a b c d e : Option Refusal) → option_or a (option_or b (option_or c (option_or d e))) ≡ None → (c ≡ None) × (d ≡ None) × (e ≡ None)
-five None None None None None h = (refl, refl, refl)
-five (Some x) b c d e h = absurd (let z : ◌≡◌ {A = ℕ} 0 1 = cc in omega arith)
-five None (Some x) c d e h = absurd (let z : ◌≡◌ {A = ℕ} 0 1 = cc in omega arith)
-five None None (Some x) d e h = absurd (let z : ◌≡◌ {A = ℕ} 0 1 = cc in omega arith)
-five None None None (Some x) e h = absurd (let z : ◌≡◌ {A = ℕ} 0 1 = cc in omega arith)
-five None None None None (Some x) h = absurd (let z : ◌≡◌ {A = ℕ} 0 1 = cc in omega arith)
+  module _ (r : Request) (a : Accepts z xs room pins r) where
+    pub words_next : put_refusal z xs room pins ≡ None → words_answer z xs room pins ≡ plain_refusal (size_of r.grid) (design_of r.design)
+    unfolding words_answer
+    words_next h = rw (h, a.grid, a.list) refl
 
-when_none : (b : Bool) (f : Refusal) → then_some b f ≡ None → b ≡ false
-when_none true f h = absurd (let z : ◌≡◌ {A = ℕ} 0 1 = cc in omega arith)
-when_none false f h = refl
+    pub put_next : words_answer z xs room pins ≡ None → put_answer z xs room pins ≡ not_yet (size_of r.grid) (list_of r.design)
+    unfolding put_answer
+    put_next h = rw (h, a.grid, a.list) refl
 
-pub record Accepted (z : Size) (xs room pins : List ℕ) : Type 0 where
-  pub room_fits : length room ≡ room_length z
-  pub sound : soundness_refusal (design_in xs) ≡ None
-  pub pins_fit : 3 * pin_count (design_in xs) ≤ length pins
+    pub planned : (p : Plan) → p.routing.grid ≡ r.grid → Plans (design_of r.design) p → Planned z xs room pins p
+    planned p grid plans =
+        let g = ap size_of grid ∙ a.grid in
+        let l : Plans (design_in xs) p = subst (λ (ys : List ℕ). Plans (design_in ys) p) a.list plans in
+        record {
+          grid = g;
+          sound = ap (λ (ys : List ℕ). soundness_refusal (design_in ys)) (sym a.list) ∙ r.sound;
+          plans = l;
+          fits = record { room_fits = a.room_fits ∙ ap room_length (sym g); pins_fit = omega (arith, a.pins_fit, l.pins) };
+        }
 
-pub accepted : (z : Size) (xs room pins : List ℕ) → put_answer z xs room pins ≡ None → Accepted z xs room pins
-unfolding put_answer put_refusal
-accepted z xs room pins h =
-    let a = (neither (put_refusal z xs room pins) (later_answer z xs) h).0 in
-    let p = five (size_refusal z) (reading_refusal xs) (then_some (not (eqb (length room) (room_length z))) RoomLength) (soundness_refusal (design_in xs))
-    (then_some (ltb (length pins) (3 * pin_count (design_in xs))) (Pins (pin_count (design_in xs)))) a in
-    record {
-      room_fits = eqb-true _ _ (not_true_false _ (when_none _ RoomLength p.0));
-      sound = p.1;
-      pins_fit = ltb-false _ _ (when_none _ (Pins (pin_count (design_in xs))) p.2);
-    }
-  where
-    not_true_false : (b : Bool) → not b ≡ false → b ≡ true
-    not_true_false true h = refl
-    not_true_false false h = sym h
+-- what is said, from the refusal that is answered
+module _ (P : Refusal → Type 0) (Q F : Type 0) where
+  says_refused : (a b : Option Refusal) (f : Refusal) → option_or a b ≡ Some f → P f → MatchOption a (MatchOption b F (λ f. Q ⊎ P f)) P
+  says_refused (Some x) b f h p = let e : f ≡ x = cc in rw e at p
+  says_refused None (Some x) f h p = let e : f ≡ x = cc in inr (rw e at p)
+  says_refused None None f h p = absurd cc
+
+  says_fits : (a b : Option Refusal) → option_or a b ≡ None → F → MatchOption a (MatchOption b F (λ f. Q ⊎ P f)) P
+  says_fits (Some x) b h q = absurd cc
+  says_fits None (Some x) h q = absurd cc
+  says_fits None None h q = q
+
+says_later : (P : Refusal → Type 0) (Q : Type 0) (a b c : Option Refusal) (f : Refusal) → option_or (option_or a b) c ≡ Some f → P f → MatchOption a (MatchOption b (MatchOption c Q P) (λ f. Q ⊎ P f)) P
+says_later P Q (Some x) b c f h p = let e : f ≡ x = cc in rw e at p
+says_later P Q None (Some x) c f h p = let e : f ≡ x = cc in inr (rw e at p)
+says_later P Q None None (Some x) f h p = let e : f ≡ x = cc in rw e at p
+says_later P Q None None None f h p = absurd cc
+
+module _ (z : Size) (xs room pins room₁ pins₁ : List ℕ) (r : Made) where
+  pub words_says : (o : Result Plan Refusal) → PlanSays (words_answer z xs room pins) z xs room pins o → CarriesOut o room pins r room₁ pins₁ → PutWordsSays z xs room pins r room₁ pins₁
+  unfolding words_answer
+  words_says (Ok p) h k =
+      says_fits (Refuses room pins r room₁ pins₁) (Places xs z room pins r room₁ pins₁) (Places xs z room pins r room₁ pins₁) (put_refusal z xs room pins) (plain_refusal z (design_in xs)) h.0 (k z xs h.1)
+  words_says (Err f) h k =
+      says_refused (Refuses room pins r room₁ pins₁) (Places xs z room pins r room₁ pins₁) (Places xs z room pins r room₁ pins₁) (put_refusal z xs room pins) (plain_refusal z (design_in xs)) f h k
+
+  pub put_says : (o : Result Plan Refusal) → PlanSays (put_answer z xs room pins) z xs room pins o → CarriesOut o room pins r room₁ pins₁ → PutSays z xs room pins r room₁ pins₁
+  unfolding put_answer words_answer
+  put_says (Ok p) h k =
+      let n = neither (option_or (put_refusal z xs room pins) (plain_refusal z (design_in xs))) (not_yet z xs) h.0 in
+      says_fits (Refuses room pins r room₁ pins₁) (Places xs z room pins r room₁ pins₁) (MatchOption (not_yet z xs) (Places xs z room pins r room₁ pins₁) (Refuses room pins r room₁ pins₁))
+      (put_refusal z xs room pins) (plain_refusal z (design_in xs)) n.0 (rw n.1 (k z xs h.1))
+  put_says (Err f) h k =
+      says_later (Refuses room pins r room₁ pins₁) (Places xs z room pins r room₁ pins₁) (put_refusal z xs room pins) (plain_refusal z (design_in xs)) (not_yet z xs) f h k

@@ -7,9 +7,9 @@ use Rattle.fabric.specs.Laws.{Rank, Ranked}
 use Rattle.fabric.proofs.Sweeps.{lookup_same, agree_same_at}
 use Rattle.fabric.proofs.Settling.{ranks_settle}
 use Rattle.netlist.specs.Netlists.{Netlist, net_level, Consistent, Lowers}
+use Rattle.netlist.proofs.Totals.{total_within}
 use Rattle.route.specs.Layouts.{Layout, Realizes}
 use Rattle.bitstream.specs.Theorem.{input_pins, output_pins}
-use Rattle.bitstream.proofs.Totals.{total_within}
 use Rattle.bitstream.proofs.Valuation.{values, values_consistent}
 use Rattle.bitstream.proofs.Fixpoint.{state_of, at_pin, state_fixed, home_looks_up}
 use Rattle.bitstream.proofs.Ranks.{rank_of, layout_ranked}

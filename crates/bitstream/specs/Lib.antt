@@ -1,3 +1,4 @@
+pub mod Fitting
 pub mod Plans
 pub mod Puts
 pub mod Theorem

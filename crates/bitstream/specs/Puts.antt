@@ -1,4 +1,4 @@
--- What `put` answers and leaves behind, as a function of the numbers that it is lent.
+-- What `put` and `put_words` answer and leave behind, as a function of the numbers that it is lent.
 -- A reader has to believe these definitions. They assume nothing.
 use Rattle.std.specs.Prelude.{◌≡◌, ℕ, ◌+◌, ◌*◌, ◌<◌, ◌≤◌, min, not, ◌⊎◌, List, length, Option, MatchOption, ◌==◌, nat_lt, slice_index}
 use Rattle.std.specs.Option.{option_or}
@@ -60,12 +60,20 @@ Refuses room pins r room₁ pins₁ f = (r ≡ Refused f) × (room₁ ≡ room) 
 abbrev pub Places : (xs : List ℕ) → Size → (room pins : List ℕ) → Made → (room₁ pins₁ : List ℕ) → Type 0
 Places xs z room pins r room₁ pins₁ = (r ≡ Placed) × Sound (design_in xs) × Puts (design_in xs) z room pins room₁ pins₁
 
--- The first refusal that applies, and nothing lent changes; else the design is placed. Where the plain layout has no room it may be
--- placed all the same.
-abbrev pub PutSays : Size → (design room pins : List ℕ) → Made → (room₁ pins₁ : List ℕ) → Type 0
-PutSays z xs room pins r room₁ pins₁ =
+-- The first refusal of 1 to 7 that applies, and nothing lent changes; else what is said of a design that `fits`. Where the plain layout has
+-- no room, the design may be placed all the same.
+abbrev pub Answers : (fits : Type 0) → (xs : List ℕ) → Size → (room pins : List ℕ) → Made → (room₁ pins₁ : List ℕ) → Type 0
+Answers fits xs z room pins r room₁ pins₁ =
     MatchOption (put_refusal z xs room pins)
-    (MatchOption (plain_refusal z (design_in xs))
-    (MatchOption (not_yet z xs) (Places xs z room pins r room₁ pins₁) (Refuses room pins r room₁ pins₁))
+    (MatchOption (plain_refusal z (design_in xs)) fits
     (λ f. Places xs z room pins r room₁ pins₁ ⊎ Refuses room pins r room₁ pins₁ f))
     (Refuses room pins r room₁ pins₁)
+
+-- `put_words` places every design that fits.
+abbrev pub PutWordsSays : Size → (design room pins : List ℕ) → Made → (room₁ pins₁ : List ℕ) → Type 0
+PutWordsSays z xs room pins r room₁ pins₁ = Answers (Places xs z room pins r room₁ pins₁) xs z room pins r room₁ pins₁
+
+-- `put` turns away those of refusal 9.
+abbrev pub PutSays : Size → (design room pins : List ℕ) → Made → (room₁ pins₁ : List ℕ) → Type 0
+PutSays z xs room pins r room₁ pins₁ =
+    Answers (MatchOption (not_yet z xs) (Places xs z room pins r room₁ pins₁) (Refuses room pins r room₁ pins₁)) xs z room pins r room₁ pins₁

@@ -1,5 +1,5 @@
--- The first number below n at which a test fails: a loop's steps, and what None says.
-use Rattle.std.proofs.Common.{◌≡◌, ℕ, zero, suc, ◌+◌, ◌<◌, Bool, true, false, not, Some, None, Option, refl, inl, inr, add-one, arith}
+-- The first number below n at which a test fails: a loop's steps, what `find` over a range answers, and what None says.
+use Rattle.std.proofs.Common.{◌≡◌, ℕ, zero, suc, ◌+◌, ◌<◌, ◌≤◌, Bool, true, false, not, Some, None, Option, MatchOption, refl, sym, inl, inr, add-one, arith}
 use Rattle.std.specs.Option.{option_or}
 use Rattle.std.specs.Bool.{then_some}
 use Rattle.std.proofs.lemmas.Bool.{cases_order}
@@ -55,3 +55,10 @@ first_start test = refl
 
 pub first_end : (test : ℕ → Bool) (k n : ℕ) → k ≡ n → first_failing test k ≡ None → first_failing test n ≡ None
 first_end test k n e h = rw e at h
+
+-- what `find` over the range to n answers, if it looks for a number at which the test fails
+pub first_from_find : (test : ℕ → Bool) (n m : ℕ) (r : Option ℕ) → m ≡ n →
+    MatchOption r ((k : ℕ) → 0 ≤ k → k < m → test k ≡ true) (λ i. (0 ≤ i) × (i < m) × (test i ≡ false) × ((k : ℕ) → 0 ≤ k → k < i → test k ≡ true)) →
+    r ≡ first_failing test n
+first_from_find test n m None e h = sym (none_first test n (λ k l. h k (omega arith) (omega arith)))
+first_from_find test n m (Some i) e h = sym (first_found test i n (none_first test i (λ k l. h.3 k (omega arith) l)) h.2 (omega (arith, h.1)))

@@ -4,3 +4,4 @@ pub mod Exprs
 pub mod Summing
 pub mod Passing
 pub mod Sound
+pub mod Filled

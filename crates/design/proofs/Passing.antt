@@ -6,7 +6,7 @@ use Rattle.design.specs.declared.node.Node.{Node}
 use Rattle.design.specs.declared.summary.Summary.{Summary}
 use Rattle.design.specs.Designs.{Design, Expr}
 use Rattle.design.specs.Numbers.{names_below, expr_of}
-use Rattle.design.specs.Summaries.{Summarizes, Known, Forms, Widths, Costs, blank}
+use Rattle.design.specs.Summaries.{Summarizes, Known}
 
 -- s is what the list holds at a
 abbrev pub Read : List Summary → ℕ → Summary → Type 0
@@ -46,7 +46,7 @@ known_more d e n known s l all here k z lt = elim (cases_eq k n) [
 ]
 
 pub summary_read : (d : Design) (e : ℕ → Expr) (n : ℕ) (known : List Summary) (k : ℕ) (s : Summary) →
-    Forms d e n known → Widths d e n known → Costs d e n known → n ≤ length known → Read known k s → k < n → Summarizes d (e k) s
-summary_read d e n known k s forms widths costs le read l =
+    Known d e n known → n ≤ length known → Read known k s → k < n → Summarizes d (e k) s
+summary_read d e n known k s all le read l =
     let P : Summary → Type 0 = λ x. Summarizes d (e k) x in
-    subst P (sym (read blank (omega arith))) (forms k l, widths k l, costs k l)
+    subst P (sym (read s (omega arith))) (all k s l)

@@ -79,7 +79,7 @@ readable xs h =
     }
 
 -- each refusal of reading, where what comes before it is in order
-pub refuses_length : (xs : List ℕ) (n : ℕ) → n ≡ expected_length xs → (length xs ≡ n → ⊥) → Some (DesignLength n) ≡ reading_refusal xs
+pub refuses_length : (xs : List ℕ) (n : ℕ) → n ≡ expected_length xs → (length xs ≡ n → ⊥) → reading_refusal xs ≡ Some (DesignLength n)
 refuses_length xs n e h = rw (is_whole, e) (simp (ne_eqb (length xs) (expected_length xs) (λ p. h (p ∙ sym e))))
 
 -- the length is right, and the numbers are of 16 bits
@@ -93,28 +93,28 @@ past_length xs h =
     let b = none_first (in_range xs) (length xs) (λ k l. le-leb (get_or xs k 0) 65535 (omega (arith, h.small k))) in
     rw is_whole (simp (a, b))
 
-pub refuses_count : (xs : List ℕ) → Long xs → 1024 < nodes_of xs → Some TooManyNodes ≡ reading_refusal xs
+pub refuses_count : (xs : List ℕ) → Long xs → 1024 < nodes_of xs → reading_refusal xs ≡ Some TooManyNodes
 refuses_count xs h l = rw (past_length xs h) (simp (lt-ltb 1024 (nodes_of xs) l))
 
 past_count : (xs : List ℕ) → Long xs → nodes_of xs ≤ 1024 → reading_refusal xs ≡ node_refusal xs
 past_count xs h l = rw (past_length xs h) (simp (le-ltb 1024 (nodes_of xs) l))
 
-pub refuses_node : (xs : List ℕ) (n : ℕ) → Long xs → nodes_of xs ≤ 1024 → first_failing (node_ok xs) (nodes_of xs) ≡ Some n → Some (BadNode n) ≡ reading_refusal xs
+pub refuses_node : (xs : List ℕ) (n : ℕ) → Long xs → nodes_of xs ≤ 1024 → first_failing (node_ok xs) (nodes_of xs) ≡ Some n → reading_refusal xs ≡ Some (BadNode n)
 refuses_node xs n h l e = rw (past_count xs h l) (simp e)
 
 past_node : (xs : List ℕ) → Long xs → nodes_of xs ≤ 1024 → first_failing (node_ok xs) (nodes_of xs) ≡ None → reading_refusal xs ≡ named_refusal xs
 past_node xs h l e = rw (past_count xs h l) (simp e)
 
 pub refuses_register : (xs : List ℕ) (r : ℕ) → Long xs → nodes_of xs ≤ 1024 → first_failing (node_ok xs) (nodes_of xs) ≡ None →
-    first_failing (register_named xs) (registers_of xs) ≡ Some r → Some (NoSuchNode (register_place xs r + 2)) ≡ reading_refusal xs
+    first_failing (register_named xs) (registers_of xs) ≡ Some r → reading_refusal xs ≡ Some (NoSuchNode (register_place xs r + 2))
 refuses_register xs r h l e f = rw (past_node xs h l e) (simp f)
 
 pub refuses_output : (xs : List ℕ) (o : ℕ) → Long xs → nodes_of xs ≤ 1024 → first_failing (node_ok xs) (nodes_of xs) ≡ None →
-    first_failing (register_named xs) (registers_of xs) ≡ None → first_failing (output_named xs) (outputs_of xs) ≡ Some o → Some (NoSuchNode (output_place xs o)) ≡ reading_refusal xs
+    first_failing (register_named xs) (registers_of xs) ≡ None → first_failing (output_named xs) (outputs_of xs) ≡ Some o → reading_refusal xs ≡ Some (NoSuchNode (output_place xs o))
 refuses_output xs o h l e f g = rw (past_node xs h l e) (simp (f, g))
 
 pub refuses_nothing : (xs : List ℕ) → Long xs → nodes_of xs ≤ 1024 → first_failing (node_ok xs) (nodes_of xs) ≡ None →
-    first_failing (register_named xs) (registers_of xs) ≡ None → first_failing (output_named xs) (outputs_of xs) ≡ None → None ≡ reading_refusal xs
+    first_failing (register_named xs) (registers_of xs) ≡ None → first_failing (output_named xs) (outputs_of xs) ≡ None → reading_refusal xs ≡ None
 refuses_nothing xs h l e f g = rw (past_node xs h l e) (simp (f, g))
 
 -- the same, from the test that stands in for `None`

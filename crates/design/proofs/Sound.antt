@@ -1,5 +1,5 @@
 -- What the refusal of an unsound design says, and sums that stop at a cap.
-use Rattle.std.proofs.Common.{◌≡◌, ℕ, ◌+◌, min, Bool, true, false, ◌&&◌, eqb, leb, List, Some, None, Option, sym, refl, ap, ◌∙◌, subst, add-one}
+use Rattle.std.proofs.Common.{◌≡◌, ℕ, ◌+◌, min, Bool, true, false, ◌&&◌, eqb, leb, List, is_some, Some, None, Option, IfSome, MatchOption, sym, refl, ap, ◌∙◌, subst, add-one}
 use Rattle.std.proofs.lemmas.Bool.{and_parts}
 use Rattle.design.specs.declared.summary.Summary.{Summary}
 use Rattle.std.specs.Option.{option_or, option_map}
@@ -95,6 +95,14 @@ register_count d k w c s sum e sound h =
     let p = and_parts (width_ok (d.register_width k)) (well_formed d (d.next k) && eqb (width d (d.next k)) (d.register_width k)) sound in
     let q = and_parts (well_formed d (d.next k)) (eqb (width d (d.next k)) (d.register_width k)) p.1 in
     h ∙ rw (sum.2 q.0, e) (capped_one (cells d (d.next k)) (d.register_width k))
+
+pub register_cost : (d : Design) (k w : ℕ) (s : Summary) (r : Option ℕ) → Summarizes d (d.next k) s → w ≡ d.register_width k →
+    is_some r ≡ ((leb 1 w && leb w 64) && (s.formed && eqb s.width w)) → IfSome r (λ c. c ≡ min 65536 (s.cells + w)) →
+    MatchOption r (register_sound d k ≡ false) (λ c. (register_sound d k ≡ true) × (c ≡ min 65536 (register_cells d k)))
+register_cost d k w s None sum e fits count = sym (fits ∙ register_test d k w s sum e)
+register_cost d k w s (Some c) sum e fits count =
+    let sound = sym (fits ∙ register_test d k w s sum e) in
+    (sound, register_count d k w c s sum e sound count)
 
 -- the same of an output
 pub output_test : (d : Design) (k : ℕ) (s : Summary) → Summarizes d (d.output k) s → s.formed ≡ output_sound d k

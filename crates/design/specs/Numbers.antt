@@ -107,6 +107,10 @@ unfoldable pub expr_at : List ℕ → (levels : ℕ) → ℕ → Expr
 expr_at xs zero n = input 0
 expr_at xs (suc l) n = elim (node_in xs n) [ None ↦ input 0 | Some node ↦ expr_of (expr_at xs l) node ]
 
+-- the expression that node n stands for, its names followed to their ends
+abbrev pub node_expr : List ℕ → ℕ → Expr
+node_expr xs = expr_at xs (nodes_of xs)
+
 -- 3. The design that the list stands for. Names go to earlier nodes, so as many levels as there are nodes follow each to its end.
 
 unfoldable pub design_in : List ℕ → Design

@@ -1,6 +1,6 @@
--- The number and the place of each refusal, and how the first of several is taken.
+-- The number and the place of each refusal, and how it is printed.
 -- A reader has to believe these definitions. They assume nothing.
-use Rattle.std.specs.Prelude.{ℕ}
+use Rattle.std.specs.Prelude.{ℕ, List, ◌++◌, codes, decimal}
 use Rattle.design.specs.declared.refusal.Refusal.{Refusal}
 use Rattle.design.specs.declared.refusal.Refusal.TheVariants.{Rows, Columns, Tracks, FabricSize, DesignLength, NumberTooLarge, TooManyNodes, BadNode, NoSuchNode, RoomLength, BitsLength, HeldLength, PadsLength, OutputsLength, UnsoundRegister, UnsoundOutput, UnsoundInput, Pins, Cells, NetTracks, Text, NotYet}
 
@@ -51,3 +51,7 @@ place_of (Cells needed) = needed
 place_of (NetTracks needed) = needed
 place_of (Text line) = line
 place_of (NotYet node) = node
+
+-- refused N at PLACE
+abbrev pub refusal_text : Refusal → List ℕ
+refusal_text r = codes "refused " ++ (decimal (number_of r) ++ (codes " at " ++ decimal (place_of r)))

@@ -1,5 +1,5 @@
 -- What a summary says of an expression. Only proofs and the contracts of inner functions use this.
-use Rattle.std.specs.Prelude.{◌≡◌, ℕ, ◌<◌, min, true, false, List, get_or, slice_index_or}
+use Rattle.std.specs.Prelude.{◌≡◌, ℕ, ◌<◌, min, true, List, slice_index_or}
 use Rattle.design.specs.declared.summary.Summary.{Summary}
 use Rattle.design.specs.Designs.{Design, Expr, width, well_formed, cells}
 
@@ -10,16 +10,3 @@ Summarizes d e s = (s.formed ≡ well_formed d e) × (well_formed d e ≡ true �
 -- the summaries of the first n nodes
 abbrev pub Known : Design → (ℕ → Expr) → ℕ → List Summary → Type 0
 Known d e n known = (k : ℕ) (z : Summary) → k < n → Summarizes d (e k) (slice_index_or known k z)
-
--- the same in three parts, at one default
-abbrev pub blank : Summary
-blank = record { width = 0; formed = false; cells = 0 }
-
-abbrev pub Forms : Design → (ℕ → Expr) → ℕ → List Summary → Type 0
-Forms d e n known = (k : ℕ) → k < n → (get_or known k blank).formed ≡ well_formed d (e k)
-
-abbrev pub Widths : Design → (ℕ → Expr) → ℕ → List Summary → Type 0
-Widths d e n known = (k : ℕ) → k < n → well_formed d (e k) ≡ true → (get_or known k blank).width ≡ width d (e k)
-
-abbrev pub Costs : Design → (ℕ → Expr) → ℕ → List Summary → Type 0
-Costs d e n known = (k : ℕ) → k < n → well_formed d (e k) ≡ true → (get_or known k blank).cells ≡ min 65536 (cells d (e k))

@@ -1,8 +1,8 @@
 // A design with the summaries of all its nodes.
 ghost use Rattle.std.specs.Prelude.{◌≡◌, ◌<◌, true, length};
 ghost use Rattle.design.specs.Designs.{well_formed, width};
-ghost use Rattle.design.specs.Numbers.{nodes_of, expr_at};
-ghost use Rattle.design.specs.Summaries.{Summarizes, Forms, Widths, Costs};
+ghost use Rattle.design.specs.Numbers.{nodes_of, node_expr};
+ghost use Rattle.design.specs.Summaries.{Summarizes, Known};
 ghost use Rattle.design.specs.Encodings.{list_of, design_of};
 
 use crate::encoded::Encoded;
@@ -14,9 +14,7 @@ pub struct Analysis<'a> {
     pub design: Encoded<'a>,
     known: [Summary; 1024],
     ghost long: { length known ≡ 1024 },
-    ghost forms: { Forms (design_of design) (expr_at (list_of design) (nodes_of (list_of design))) (nodes_of (list_of design)) known },
-    ghost widths: { Widths (design_of design) (expr_at (list_of design) (nodes_of (list_of design))) (nodes_of (list_of design)) known },
-    ghost costs: { Costs (design_of design) (expr_at (list_of design) (nodes_of (list_of design))) (nodes_of (list_of design)) known },
+    ghost summarized: { Known (design_of design) (node_expr (list_of design)) (nodes_of (list_of design)) known },
 }
 
 impl<'a> Analysis<'a> {
@@ -32,7 +30,7 @@ impl<'a> Analysis<'a> {
 
     pub(crate) fn summary(&self, n: u16) -> Summary
         ensures { n < nodes_of (list_of self.now.design) →
-            Summarizes (design_of self.now.design) (expr_at (list_of self.now.design) (nodes_of (list_of self.now.design)) n) result }
+            Summarizes (design_of self.now.design) (node_expr (list_of self.now.design) n) result }
     {
         pass::at(&self.known, n)
     }
@@ -40,8 +38,8 @@ impl<'a> Analysis<'a> {
     // The width of a node that is well-formed.
     pub fn width(&self, n: u16) -> u16
         ensures { n < nodes_of (list_of self.now.design) →
-            well_formed (design_of self.now.design) (expr_at (list_of self.now.design) (nodes_of (list_of self.now.design)) n) ≡ true →
-            result ≡ width (design_of self.now.design) (expr_at (list_of self.now.design) (nodes_of (list_of self.now.design)) n) }
+            well_formed (design_of self.now.design) (node_expr (list_of self.now.design) n) ≡ true →
+            result ≡ width (design_of self.now.design) (node_expr (list_of self.now.design) n) }
     {
         self.summary(n).width
     }

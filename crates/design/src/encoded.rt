@@ -15,7 +15,7 @@ pub struct Encoded<'a> {
 }
 
 // A register: its width, the number that it begins with, and the node that it becomes at the end of a tick.
-#[derive(Clone, Copy)]
+#[derive(Clone, Copy, PartialEq, Eq, Debug)]
 pub struct Register {
     pub width: u16,
     pub initial: u16,
@@ -30,9 +30,20 @@ pub fn validate(numbers: &[u16]) -> Result<(), Refusal>
         (λ _. reading_refusal numbers.now ≡ None)
         (λ refusal. reading_refusal numbers.now ≡ Some refusal) }
 {
-    match faults::fault(numbers) {
-        Some(refusal) => Err(refusal),
-        None => Ok(()),
+    Encoded::try_from(numbers)?;
+    Ok(())
+}
+
+impl<'a> TryFrom<&'a [u16]> for Encoded<'a> {
+    type Error = Refusal;
+
+    ghost try_from_gives = { λ numbers r. MatchResult r
+        (λ design. (reading_refusal numbers.now ≡ None) × (design.numbers.now ≡ numbers.now))
+        (λ refusal. reading_refusal numbers.now ≡ Some refusal) };
+
+    fn try_from(numbers: &'a [u16]) -> Result<Encoded<'a>, Refusal> {
+        faults::check(numbers)?;
+        Ok(Encoded { numbers })
     }
 }
 
@@ -42,10 +53,7 @@ impl<'a> Encoded<'a> {
         ensures list { result.numbers.now ≡ (if is_some (reading_refusal numbers.now) then 0 ∷ 0 ∷ 0 ∷ 0 ∷ [] else numbers.now) }
         ensures whole { reading_refusal numbers.now ≡ None → result.numbers.now ≡ numbers.now }
     {
-        if faults::fault(numbers).is_some() {
-            return Encoded { numbers: &EMPTY };
-        }
-        Encoded { numbers }
+        Encoded::try_from(numbers).unwrap_or(Encoded { numbers: &EMPTY })
     }
 
     pub fn inputs(self) -> u16

@@ -1,5 +1,5 @@
 // What is wrong with a list of numbers that should be a design.
-ghost use Rattle.std.specs.Prelude.{◌≡◌, ◌&&◌, ltb, nat_lt};
+ghost use Rattle.std.specs.Prelude.{◌≡◌, ◌&&◌, ltb, nat_lt, Some, None, MatchResult};
 ghost use Rattle.design.specs.Numbers.{registers_of, outputs_of, nodes_of, register_node, output_node, names_below, node_ok, first_failing, reading_refusal};
 
 use crate::layout;
@@ -41,13 +41,7 @@ fn node_ok(numbers: &[u16], n: u16) -> bool
 fn bad_node(numbers: &[u16]) -> Option<u16>
     ensures { result ≡ first_failing (node_ok numbers.now) (nodes_of numbers.now) }
 {
-    let nodes = layout::nodes(numbers);
-    for n in 0..nodes {
-        if !node_ok(numbers, n) {
-            return Some(n);
-        }
-    }
-    None
+    (0..layout::nodes(numbers)).find(|n| !node_ok(numbers, *n))
 }
 
 // The first register that names a node that there isn't.
@@ -55,13 +49,7 @@ fn dangling_register(numbers: &[u16]) -> Option<u16>
     ensures { result ≡ first_failing (λ k. ltb (register_node numbers.now k) (nodes_of numbers.now)) (registers_of numbers.now) }
 {
     let nodes = layout::nodes(numbers);
-    let registers = layout::registers(numbers);
-    for register in 0..registers {
-        if layout::register_node(numbers, register) >= nodes {
-            return Some(register);
-        }
-    }
-    None
+    (0..layout::registers(numbers)).find(|k| layout::register_node(numbers, *k) >= nodes)
 }
 
 // The first output that names a node that there isn't.
@@ -69,40 +57,36 @@ fn dangling_output(numbers: &[u16]) -> Option<u16>
     ensures { result ≡ first_failing (λ k. ltb (output_node numbers.now k) (nodes_of numbers.now)) (outputs_of numbers.now) }
 {
     let nodes = layout::nodes(numbers);
-    let outputs = layout::outputs(numbers);
-    for output in 0..outputs {
-        if layout::output_node(numbers, output) >= nodes {
-            return Some(output);
-        }
-    }
-    None
+    (0..layout::outputs(numbers)).find(|k| layout::output_node(numbers, *k) >= nodes)
 }
 
 // The first fault of the list, if there is one. The numbers are of 16 bits, so none is above 65,535.
-pub(crate) fn fault(numbers: &[u16]) -> Option<Refusal>
-    ensures { result ≡ reading_refusal numbers.now }
+pub(crate) fn check(numbers: &[u16]) -> Result<(), Refusal>
+    ensures { MatchResult result
+        (λ _. reading_refusal numbers.now ≡ None)
+        (λ refusal. reading_refusal numbers.now ≡ Some refusal) }
 {
     let expected = layout::expected_length(numbers);
     if numbers.len() != expected {
-        return Some(Refusal::DesignLength {
+        return Err(Refusal::DesignLength {
             expected: expected as u64,
         });
     }
     if layout::nodes(numbers) > MOST_NODES {
-        return Some(Refusal::TooManyNodes);
+        return Err(Refusal::TooManyNodes);
     }
     if let Some(n) = bad_node(numbers) {
-        return Some(Refusal::BadNode { node: n as u64 });
+        return Err(Refusal::BadNode { node: n as u64 });
     }
     if let Some(register) = dangling_register(numbers) {
-        return Some(Refusal::NoSuchNode {
+        return Err(Refusal::NoSuchNode {
             place: layout::register_place(numbers, register) as u64 + 2,
         });
     }
     if let Some(output) = dangling_output(numbers) {
-        return Some(Refusal::NoSuchNode {
+        return Err(Refusal::NoSuchNode {
             place: layout::output_place(numbers, output) as u64,
         });
     }
-    None
+    Ok(())
 }

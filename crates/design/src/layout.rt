@@ -7,11 +7,7 @@ use crate::node::Node;
 pub(crate) fn at(numbers: &[u16], place: usize) -> u16
     ensures { result ≡ slice_index numbers.now place }
 {
-    if place < numbers.len() {
-        numbers[place]
-    } else {
-        0
-    }
+    numbers.get(place).copied().unwrap_or(0)
 }
 
 pub(crate) fn inputs(numbers: &[u16]) -> u16

@@ -1,6 +1,6 @@
 // A node of a design in numbers: an operation on earlier nodes, which it names by their numbers.
 
-#[derive(Clone, Copy)]
+#[derive(Clone, Copy, PartialEq, Eq, Debug)]
 pub enum Node {
     Input(u16),
     Register(u16),

@@ -2,8 +2,9 @@
 ghost use Rattle.std.specs.Prelude.{◌≡◌, ℕ, ◌<◌, ◌≤◌, true, length, slice_index_or};
 ghost use Rattle.design.specs.declared.summary.Summary.{Summary};
 ghost use Rattle.design.specs.Designs.{Expr};
-ghost use Rattle.design.specs.Numbers.{nodes_of, names_below, expr_of, expr_at, design_in};
+ghost use Rattle.design.specs.Numbers.{nodes_of, names_below, expr_of, node_expr};
 ghost use Rattle.design.specs.Summaries.{Summarizes, Known};
+ghost use Rattle.design.specs.Encodings.{list_of, design_of};
 
 use crate::encoded::Encoded;
 use crate::node::Node;
@@ -18,14 +19,12 @@ const BLANK: Summary = Summary {
 pub(crate) fn at(known: &[Summary], n: u16) -> Summary
     ensures { (z : Summary) → n < length known.now → result ≡ slice_index_or known.now n z }
 {
-    let n = n as usize;
-    if n < known.len() { known[n] } else { BLANK }
+    known.get(n as usize).copied().unwrap_or(BLANK)
 }
 
 fn summarize(design: Encoded<'_>, known: &[Summary], node: Node) -> Summary
     ensures { (e : ℕ → Expr) (n : ℕ) → n ≤ length known.now → names_below n node ≡ true →
-        Known (design_in design.entry.numbers.now) e n known.now →
-        Summarizes (design_in design.entry.numbers.now) (expr_of e node) result }
+        Known (design_of design.entry) e n known.now → Summarizes (design_of design.entry) (expr_of e node) result }
 {
     match node {
         Node::Input(i) => Summary {
@@ -56,16 +55,11 @@ fn summarize(design: Encoded<'_>, known: &[Summary], node: Node) -> Summary
     }
 }
 
-fn blank<const N: usize>() -> [Summary; N] {
-    [BLANK; N]
-}
-
 // The summaries of all nodes.
 pub(crate) fn pass(design: Encoded<'_>) -> [Summary; 1024]
-    ensures { Known (design_in design.entry.numbers.now)
-        (expr_at design.entry.numbers.now (nodes_of design.entry.numbers.now)) (nodes_of design.entry.numbers.now) result }
+    ensures { Known (design_of design.entry) (node_expr (list_of design.entry)) (nodes_of (list_of design.entry)) result }
 {
-    let mut known: [Summary; 1024] = blank();
+    let mut known = [BLANK; 1024];
     let nodes = design.nodes();
     for n in 0..nodes {
         known[n as usize] = summarize(design, &known, design.node(n));

@@ -1,8 +1,10 @@
 // Why an input is turned away. Each case is one reason; `specs/Refusals.antt` gives the number and the place of each.
-ghost use Rattle.std.specs.Prelude.{◌≡◌};
-ghost use Rattle.design.specs.Refusals.{number_of, place_of};
+ghost use Rattle.std.specs.Prelude.{◌≡◌, Some};
+ghost use Rattle.design.specs.Refusals.{number_of, place_of, refusal_text};
 
-#[derive(Clone, Copy)]
+use std::fmt;
+
+#[derive(Clone, Copy, PartialEq, Eq, Debug)]
 pub enum Refusal {
     // 1: the fabric has no row, or more than 32
     Rows,
@@ -98,5 +100,16 @@ impl Refusal {
             Refusal::Text { line } => line,
             Refusal::NotYet { node } => node,
         }
+    }
+}
+
+// As `refused N at PLACE`.
+impl fmt::Display for Refusal {
+    ghost output = { λ refusal. Some (refusal_text refusal) };
+
+    fn fmt<W: fmt::Write>(&self, f: &mut fmt::Formatter<W>) -> fmt::Result {
+        let number = self.number();
+        let place = self.place();
+        write!(f, "refused {number} at {place}")
     }
 }

@@ -26,11 +26,7 @@ fn register_cost(analysis: &Analysis<'_>, k: u16) -> Option<u32>
 {
     let register = analysis.design.register(k);
     let next = analysis.summary(register.next);
-    if register_fits(register, next) {
-        Some(capped(next.cells, register.width as u32))
-    } else {
-        None
-    }
+    register_fits(register, next).then(|| capped(next.cells, register.width as u32))
 }
 
 // The cells of all registers, or the first that isn't sound.
@@ -43,10 +39,7 @@ fn check_registers(analysis: &Analysis<'_>) -> Result<u32, u16>
     let registers = analysis.design.registers();
     let mut cells = 0;
     for k in 0..registers {
-        match register_cost(analysis, k) {
-            Some(more) => cells = capped(cells, more),
-            None => return Err(k),
-        }
+        cells = capped(cells, register_cost(analysis, k).ok_or(k)?);
     }
     Ok(cells)
 }
@@ -122,22 +115,17 @@ pub fn check(design: Encoded<'_>) -> Result<Counts, Refusal>
         (λ refusal. soundness_refusal (design_of design.entry) ≡ Some refusal) }
 {
     let analysis = Analysis::new(design);
-    let registers = match check_registers(&analysis) {
-        Ok(cells) => cells,
-        Err(k) => return Err(Refusal::UnsoundRegister { register: k as u64 }),
-    };
-    let outputs = match check_outputs(&analysis) {
-        Ok(counts) => counts,
-        Err(k) => return Err(Refusal::UnsoundOutput {
-            place: design.registers() as u64 + k as u64,
-        }),
-    };
-    let inputs = match check_inputs(design) {
-        Ok(bits) => bits,
-        Err(k) => return Err(Refusal::UnsoundInput {
-            place: design.registers() as u64 + design.outputs() as u64 + k as u64,
-        }),
-    };
+    let first_output = design.registers() as u64;
+    let first_input = first_output + design.outputs() as u64;
+    let registers = check_registers(&analysis).map_err(|k| Refusal::UnsoundRegister {
+        register: k as u64,
+    })?;
+    let outputs = check_outputs(&analysis).map_err(|k| Refusal::UnsoundOutput {
+        place: first_output + k as u64,
+    })?;
+    let inputs = check_inputs(design).map_err(|k| Refusal::UnsoundInput {
+        place: first_input + k as u64,
+    })?;
     let cells = capped(registers, outputs.cells);
     Ok(Counts {
         input_bits: inputs,

@@ -1,7 +1,7 @@
 -- How the words of a listing are written.
 use Rattle.std.specs.Prelude.{◌≡◌, ℕ, List, codes, ◌≢◌}
 use Rattle.fabric.specs.declared.parts.Side.{Side as fabric_Side}
-use Rattle.listings.specs.Sides.{side_word}
+use Rattle.fabric.specs.Sides.{side_word}
 use Rattle.entries.specs.declared.keywords.Keyword.{Keyword}
 use Rattle.entries.specs.declared.keywords.Keyword.TheVariants.{Fabric, Cell, Table, Holds, From, In, Out, At, Nothing, Own, Zero, One, Side, Other}
 

@@ -4,7 +4,7 @@ use Rattle.std.specs.Borrow.{Bor}
 use Rattle.fabric.specs.declared.parts.Pin.{Pin}
 use Rattle.fabric.specs.declared.parts.Source.{Source}
 use Rattle.fabric.specs.declared.parts.Source.TheVariants.{Nothing, Own, Track}
-use Rattle.listings.specs.Sides.{side_word}
+use Rattle.fabric.specs.Sides.{side_word}
 use Rattle.words.specs.Numbers.{Capped}
 use Rattle.entries.specs.declared.entry.Seat.{Seat}
 use Rattle.entries.specs.declared.entry.Entry.{Entry}

@@ -4,7 +4,7 @@ ghost use Rattle.fabric.specs.declared.parts.Source.TheVariants.{Track};
 ghost use Rattle.entries.specs.Lines.{SourceAt};
 ghost use Rattle.fabric.specs.declared.parts.Side.{Side};
 ghost use Rattle.words.specs.Numbers.{Capped};
-ghost use Rattle.listings.specs.Sides.{side_word};
+ghost use Rattle.fabric.specs.Sides.{side_word};
 ghost use Rattle.entries.specs.Keywords.{Means};
 ghost use Rattle.entries.specs.Texts.{Small, hex_value, HexNumber, word_at};
 

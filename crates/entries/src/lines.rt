@@ -1,6 +1,6 @@
 // What the lines of a listing say, from their words.
 ghost use Rattle.std.specs.Prelude.{◌≡◌, IfSome, if◌then◌else◌, codes, MatchBool};
-ghost use Rattle.listings.specs.Sides.{side_word};
+ghost use Rattle.fabric.specs.Sides.{side_word};
 ghost use Rattle.entries.specs.Lines.{CellSays, LineSays, PinAt};
 ghost use Rattle.entries.specs.Texts.{word_at};
 

@@ -7,6 +7,7 @@ use Rattle.fabric.specs.declared.parts.Source.{Source}
 use Rattle.fabric.specs.declared.parts.Source.TheVariants.{Nothing, Own, Track}
 use Rattle.fabric.specs.declared.grid.Grid.{Grid}
 use Rattle.fabric.specs.declared.wiring.Wiring.{Wiring}
+use Rattle.fabric.specs.declared.wiring.Moment.{Moment}
 use Rattle.fabric.specs.Fabrics.{Size, cell_count, Config, Signals, Pads}
 use Rattle.fabric.specs.Numbers.{side_number, config_in, pads_in, room_length, pads_length, tick_refusal}
 
@@ -48,6 +49,9 @@ state_of z xs = record {
   cell = λ c. slice_index_or xs (c * per_signal z) false;
   track = λ c s t. slice_index_or xs (track_place z c s t) false;
 }
+
+abbrev pub levels_of : Moment → Signals
+levels_of m = state_of (grid_of m.wiring) m.levels.now
 
 unfoldable pub side_at : ℕ → Side
 side_at n = cond (n == 0) Right (cond (n == 1) Below (cond (n == 2) Left Above))

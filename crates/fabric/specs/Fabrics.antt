@@ -2,18 +2,17 @@
 -- A reader has to believe these definitions. They assume nothing.
 use Rattle.std.specs.Prelude.{◌≡◌, ℕ, zero, suc, ◌+◌, ◌-◌, ◌*◌, ◌/◌, ◌%◌, ◌<◌, Bool, false, cond, List, [], ◌∷◌, ◌==◌, nat_lt}
 use Rattle.design.specs.Designs.{bit}
+use Rattle.fabric.specs.declared.size.Size.{Size as the_size}
 use Rattle.fabric.specs.declared.parts.Side.{Side}
 use Rattle.fabric.specs.declared.parts.Side.TheVariants.{Right, Below, Left, Above}
 use Rattle.fabric.specs.declared.parts.Source.{Source}
 use Rattle.fabric.specs.declared.parts.Source.TheVariants.{Nothing, Own, Track}
 
 -- 1. Geometry. Cells stand in rows and columns and are numbered row by row from 0; between neighbours, and out at each edge, go so
--- many tracks each way.
+-- many tracks each way. So a size is three numbers, `columns`, `rows` and `tracks`: it is the code's `Size`.
 
-pub record Size : Type 0 where
-  pub columns : ℕ
-  pub rows : ℕ
-  pub tracks : ℕ
+abbrev pub Size : Type 0
+Size = the_size
 
 abbrev pub cell_count : Size → ℕ
 cell_count z = z.columns * z.rows

@@ -6,6 +6,7 @@ pub mod laws;
 pub mod parts;
 mod places;
 mod reading;
+pub mod size;
 mod sweeping;
 pub mod ticking;
 mod wiring;

@@ -1,20 +1,27 @@
 // Sizes and places on a fabric.
-ghost use Rattle.std.specs.Prelude.{◌≡◌, ◌+◌, ◌*◌, ◌<◌, ◌≤◌, false, Some, None, MatchResult};
+ghost use Rattle.std.specs.Prelude.{◌≡◌, ◌<◌, ◌≤◌, true, false, Some, None, MatchOption, MatchResult};
 ghost use Rattle.fabric.specs.Fabrics.{cell_count, at_edge, neighbour};
-ghost use Rattle.fabric.specs.Numbers.{per_cell, room_length, pads_length, pad_place, size_refusal};
-ghost use Rattle.fabric.specs.Code.{size_of, per_signal, signal_count, track_place};
+ghost use Rattle.fabric.specs.Numbers.{per_cell, room_length, pads_length, size_refusal};
+ghost use Rattle.fabric.specs.Code.{size_of, signal_count};
 
 use crate::grid::Grid;
 use crate::parts::Side;
+use crate::size::Size;
 use design::refusal::Refusal;
 
-impl Grid {
-    // The grid of that size, or why there is none.
-    pub fn new(columns: u64, rows: u64, tracks: u64) -> Result<Grid, Refusal>
-        ensures { MatchResult result
-            (λ g. (size_refusal (record { columns = columns; rows = rows; tracks = tracks }) ≡ None) × (size_of g ≡ record { columns = columns; rows = rows; tracks = tracks }))
-            (λ f. size_refusal (record { columns = columns; rows = rows; tracks = tracks }) ≡ Some f) }
-    {
+// The grid of that size, or why there is none.
+impl TryFrom<Size> for Grid {
+    type Error = Refusal;
+
+    ghost try_from_gives = { λ size r. MatchResult r (λ g. (size_refusal size ≡ None) × (size_of g ≡ size)) (λ f. size_refusal size ≡ Some f) };
+
+    #[tactic(auto, using(std::proofs::lemmas::Bool::Decides::nat_tests), unfolding(crate::specs::Numbers::size_refusal, crate::specs::Numbers::room_length, crate::specs::Numbers::per_cell))]
+    fn try_from(size: Size) -> Result<Grid, Refusal> {
+        let Size {
+            columns,
+            rows,
+            tracks,
+        } = size;
         if rows == 0 || rows > 32 {
             return Err(Refusal::Rows);
         }
@@ -33,7 +40,9 @@ impl Grid {
             tracks: tracks as usize,
         })
     }
+}
 
+impl Grid {
     // How many cells there are.
     pub fn cells(self) -> usize
         ensures { result ≡ cell_count (size_of self) }
@@ -42,6 +51,7 @@ impl Grid {
     }
 
     // How many numbers configure one cell.
+    #[tactic(auto, unfolding(crate::specs::Numbers::per_cell))]
     pub fn per_cell(self) -> usize
         ensures { result ≡ per_cell (size_of self) }
     {
@@ -49,6 +59,7 @@ impl Grid {
     }
 
     // How many numbers configure the fabric.
+    #[tactic(auto, unfolding(crate::specs::Numbers::room_length, crate::specs::Numbers::per_cell))]
     pub fn room_len(self) -> usize
         ensures { result ≡ room_length (size_of self) }
     {
@@ -56,6 +67,7 @@ impl Grid {
     }
 
     // How many pads there are.
+    #[tactic(auto, unfolding(crate::specs::Numbers::pads_length))]
     pub fn pads_len(self) -> usize
         ensures { result ≡ pads_length (size_of self) }
     {
@@ -71,6 +83,7 @@ impl Grid {
     }
 
     // Whether no neighbour stands on that side of the cell.
+    #[tactic(auto, using(std::proofs::lemmas::Bool::Decides::nat_tests), unfolding(crate::specs::Fabrics::at_edge))]
     pub fn at_edge(self, cell: usize, side: Side) -> bool
         ensures { result ≡ at_edge (size_of self) cell side }
     {
@@ -82,47 +95,20 @@ impl Grid {
         }
     }
 
-    // The cell on that side.
-    pub(crate) fn neighbour(self, cell: usize, side: Side) -> usize
-        requires inside { cell < cell_count (size_of self) }
-        requires open { at_edge (size_of self) cell side ≡ false }
-        ensures is { result ≡ neighbour (size_of self) cell side }
-        ensures inside { result < cell_count (size_of self) }
+    // The cell on that side, or none at an edge.
+    pub(crate) fn neighbour(self, cell: usize, side: Side) -> Option<usize>
+        requires { cell < cell_count (size_of self) }
+        ensures { MatchOption result (at_edge (size_of self) cell side ≡ true)
+            (λ n. (at_edge (size_of self) cell side ≡ false) × (n ≡ neighbour (size_of self) cell side) × (n < cell_count (size_of self))) }
     {
-        match side {
+        if self.at_edge(cell, side) {
+            return None;
+        }
+        Some(match side {
             Side::Right => cell + 1,
             Side::Below => cell + self.columns,
             Side::Left => cell - 1,
             Side::Above => cell - self.columns,
-        }
-    }
-
-    // Where the signal of a cell stands among all.
-    pub(crate) fn cell_place(self, cell: usize) -> usize
-        requires inside { cell < cell_count (size_of self) }
-        ensures is { result ≡ cell * per_signal (size_of self) }
-        ensures inside { result < signal_count (size_of self) }
-    {
-        cell * (1 + 4 * self.tracks)
-    }
-
-    // Where the signal of a track stands among all.
-    pub(crate) fn track_place(self, cell: usize, side: Side, track: usize) -> usize
-        requires inside { cell < cell_count (size_of self) }
-        requires some { track < self.tracks }
-        ensures is { result ≡ track_place (size_of self) cell side track }
-        ensures inside { result < signal_count (size_of self) }
-    {
-        cell * (1 + 4 * self.tracks) + (1 + (side.number() as usize * self.tracks + track))
-    }
-
-    // Where a pad stands among all.
-    pub(crate) fn pad_place(self, cell: usize, side: Side, track: usize) -> usize
-        requires inside { cell < cell_count (size_of self) }
-        requires some { track < self.tracks }
-        ensures is { result ≡ pad_place (size_of self) cell side track }
-        ensures inside { result < pads_length (size_of self) }
-    {
-        (cell * 4 + side.number() as usize) * self.tracks + track
+        })
     }
 }

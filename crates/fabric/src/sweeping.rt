@@ -1,92 +1,69 @@
 // Sweeps, and how a fabric settles.
-ghost use Rattle.std.specs.Prelude.{◌≡◌, ℕ, ◌+◌, ◌*◌, ◌<◌, true, false, length, Decides, MatchBool, slice_index_or};
+ghost use Rattle.std.specs.Prelude.{◌≡◌, ◌<◌, ◌/◌, ◌%◌, length, MatchBool};
 ghost use Rattle.fabric.specs.Fabrics.{cell_count, read, sweep, dark, final, Agree, Settles};
 ghost use Rattle.fabric.specs.Numbers.{held_in};
-ghost use Rattle.fabric.specs.Code.{grid_of, config_of, pads_of, signal_count, state_of, signal_at};
+ghost use Rattle.fabric.specs.Code.{grid_of, config_of, pads_of, signal_count, state_of, levels_of, signal_at};
 
 use crate::parts::{Side, Source};
-use crate::wiring::Wiring;
+use crate::wiring::{Moment, Spot, Wiring};
 
-// Levels that are all 0.
-pub(crate) fn blank<const N: usize>() -> [bool; N]
-    ensures len { length result ≡ N }
-    ensures dark { (k : ℕ) → slice_index_or result k false ≡ false }
-{
-    [false; N]
-}
-
-// Whether two lists of levels are the same.
-fn same(a: &[bool], b: &[bool]) -> bool
-    ensures { Decides result (a.now ≡ b.now) }
-{
-    a == b
-}
-
-impl Wiring<'_, '_> {
-    // What a cell shows after a sweep.
-    pub(crate) fn next_cell(self, held: &[u8], levels: &[bool], cell: usize) -> bool
-        requires held { length held.now ≡ cell_count (grid_of self) }
-        requires all { length levels.now ≡ signal_count (grid_of self) }
-        requires inside { cell < cell_count (grid_of self) }
-        ensures { result ≡ (sweep (grid_of self.entry) (config_of self.entry) (held_in held.now) (pads_of self.entry) (state_of (grid_of self.entry) levels.now)).cell cell }
+impl Spot<'_> {
+    // What the cell shows after a sweep.
+    #[tactic(auto, unfolding(crate::specs::Numbers::per_cell))]
+    pub(crate) fn next(self, held: &[u8]) -> bool
+        ensures { let w = self.entry.moment.wiring in result ≡ (sweep (grid_of w) (config_of w) (held_in held.now) (pads_of w) (levels_of self.entry.moment)).cell self.entry.cell }
     {
-        if self.word(cell, 20) == 1 {
-            held[cell] == 1
+        if self.word(20) == 1 {
+            held.get(self.cell).copied().unwrap_or(0) == 1
         } else {
-            self.lookup(levels, cell)
+            self.lookup()
         }
     }
 
-    // What a track that goes out of a cell carries after a sweep.
-    pub(crate) fn next_track(self, levels: &[bool], cell: usize, side: Side, track: usize) -> bool
-        requires all { length levels.now ≡ signal_count (grid_of self) }
-        requires inside { cell < cell_count (grid_of self) }
-        requires some { track < self.grid.tracks }
-        ensures { result ≡ read (grid_of self.entry) (pads_of self.entry) (state_of (grid_of self.entry) levels.now) cell ((config_of self.entry).drive cell side track) }
+    // What a track that goes out of the cell carries after a sweep.
+    pub(crate) fn next_carried(self, side: Side, track: usize) -> bool
+        requires { track < self.moment.wiring.grid.tracks }
+        ensures { let w = self.entry.moment.wiring in result ≡ read (grid_of w) (pads_of w) (levels_of self.entry.moment) self.entry.cell ((config_of w).drive self.entry.cell side track) }
     {
-        let number = side.number() as usize;
-        let source = Source::of(self.word(cell, 22 + (number * self.grid.tracks + track)));
-        self.read(levels, cell, source)
+        let place = u16::from(side) as usize * self.moment.wiring.grid.tracks + track;
+        self.read(Source::from(self.word(22 + place)))
     }
+}
 
+impl Moment<'_> {
     // What the signal at a place shows after a sweep.
-    pub(crate) fn next(self, held: &[u8], levels: &[bool], place: usize) -> bool
-        requires held { length held.now ≡ cell_count (grid_of self) }
-        requires all { length levels.now ≡ signal_count (grid_of self) }
-        requires inside { place < signal_count (grid_of self) }
-        ensures { result ≡ signal_at (grid_of self.entry) (sweep (grid_of self.entry) (config_of self.entry) (held_in held.now) (pads_of self.entry) (state_of (grid_of self.entry) levels.now)) place }
+    pub(crate) fn next(self, held: &[u8], place: usize) -> bool
+        requires { place < signal_count (grid_of self.wiring) }
+        ensures { let w = self.entry.wiring in result ≡ signal_at (grid_of w) (sweep (grid_of w) (config_of w) (held_in held.now) (pads_of w) (levels_of self.entry)) place }
     {
-        let tracks = self.grid.tracks;
-        let cell = place / (1 + 4 * tracks);
+        let tracks = self.wiring.grid.tracks;
+        let spot = Spot {
+            moment: self,
+            cell: place / (1 + 4 * tracks),
+        };
         let rest = place % (1 + 4 * tracks);
         if rest == 0 {
-            self.next_cell(held, levels, cell)
+            spot.next(held)
         } else {
-            self.next_track(
-                levels,
-                cell,
-                Side::at((rest - 1) / tracks),
-                (rest - 1) % tracks,
-            )
+            spot.next_carried(Side::at((rest - 1) / tracks), (rest - 1) % tracks)
         }
     }
 
     // One sweep: everything looks at once at what was before.
-    pub(crate) fn sweep(self, held: &[u8], levels: &[bool], next: &mut [bool])
-        requires held { length held.now ≡ cell_count (grid_of self) }
-        requires all { length levels.now ≡ signal_count (grid_of self) }
-        requires next { length next.old ≡ signal_count (grid_of self) }
-        ensures { Agree (grid_of self.entry) (state_of (grid_of self.entry) next.new) (sweep (grid_of self.entry) (config_of self.entry) (held_in held.now) (pads_of self.entry) (state_of (grid_of self.entry) levels.now)) }
+    pub(crate) fn sweep(self, held: &[u8], next: &mut [bool])
+        requires { length next.old ≡ signal_count (grid_of self.wiring) }
+        ensures { let w = self.entry.wiring in Agree (grid_of w) (state_of (grid_of w) next.new) (sweep (grid_of w) (config_of w) (held_in held.now) (pads_of w) (levels_of self.entry)) }
     {
-        for place in 0..next.len() {
-            next[place] = self.next(held, levels, place);
+        for (place, slot) in next.iter_mut().enumerate() {
+            *slot = self.next(held, place);
         }
     }
+}
 
+impl Wiring<'_> {
     // Sweeps until nothing changes, and says whether that came about. `levels`, dark at first, then has what the cells show and the
     // tracks carry.
     pub(crate) fn settle(self, held: &[u8], levels: &mut [bool], next: &mut [bool]) -> bool
-        requires held { length held.now ≡ cell_count (grid_of self) }
         requires all { length levels.old ≡ signal_count (grid_of self) }
         requires next { length next.old ≡ signal_count (grid_of self) }
         requires dark { Agree (grid_of self) (state_of (grid_of self) levels.old) dark }
@@ -96,17 +73,17 @@ impl Wiring<'_, '_> {
             (Settles (grid_of self.entry) (config_of self.entry) (held_in held.now) (pads_of self.entry) → ⊥) }
     {
         let limit = self.grid.signals() + 1;
-        let mut done = 0;
-        'sweeps: loop {
-            self.sweep(held, levels, next);
-            if same(levels, next) {
+        for _ in 0..=limit {
+            let moment = Moment {
+                wiring: self,
+                levels,
+            };
+            moment.sweep(held, next);
+            if &*levels == &*next {
                 return true;
             }
-            if done == limit {
-                return false;
-            }
             levels.copy_from_slice(next);
-            done += 1;
         }
+        false
     }
 }

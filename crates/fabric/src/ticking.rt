@@ -6,8 +6,8 @@ ghost use Rattle.fabric.specs.Ticks.{TickSays};
 ghost use Rattle.fabric.specs.Code.{grid_of, config_of, pads_of, FitsTick};
 
 use crate::grid::Grid;
-use crate::sweeping::blank;
-use crate::wiring::Wiring;
+use crate::size::Size;
+use crate::wiring::{Moment, Wiring};
 use design::refusal::Refusal;
 
 // The most cells and tracks that a fabric has together.
@@ -36,27 +36,24 @@ pub fn tick(
 ) -> Done
     ensures { TickSays (record { columns = across; rows = down; tracks = tracks }) bits.now kept.old pads.now outs.old result kept.new outs.new }
 {
-    match checked(across, down, tracks, bits, kept, pads, outs) {
+    let size = Size {
+        columns: across,
+        rows: down,
+        tracks,
+    };
+    match checked(size, bits, kept, pads, outs) {
         Err(refusal) => Done::Turned(refusal),
         Ok(grid) => play(Wiring { grid, bits, pads }, kept, outs),
     }
 }
 
 // The grid of a tick, or the first reason to turn it away.
-fn checked(
-    columns: u64,
-    rows: u64,
-    tracks: u64,
-    bits: &[u16],
-    held: &[u8],
-    pads: &[u8],
-    outs: &[u8],
-) -> Result<Grid, Refusal>
+fn checked(size: Size, bits: &[u16], held: &[u8], pads: &[u8], outs: &[u8]) -> Result<Grid, Refusal>
     ensures { MatchResult result
-        (λ g. FitsTick g (record { columns = columns; rows = rows; tracks = tracks }) bits.now held.now pads.now outs.now)
-        (λ f. tick_refusal (record { columns = columns; rows = rows; tracks = tracks }) bits.now held.now pads.now outs.now ≡ Some f) }
+        (λ g. FitsTick g size bits.now held.now pads.now outs.now)
+        (λ f. tick_refusal size bits.now held.now pads.now outs.now ≡ Some f) }
 {
-    let grid = Grid::new(columns, rows, tracks)?;
+    let grid = Grid::try_from(size)?;
     if bits.len() != grid.room_len() {
         return Err(Refusal::BitsLength);
     }
@@ -79,14 +76,15 @@ fn play(wiring: Wiring, kept: &mut [u8], outs: &mut [u8]) -> Done
     ensures { ((result ≡ Done.Ticked) × Ticks (grid_of wiring.entry) (config_of wiring.entry) kept.old wiring.entry.pads.now outs.old kept.new outs.new)
         ⊎ ((result ≡ Done.Restless) × (kept.new ≡ kept.old) × (outs.new ≡ outs.old) × (Settles (grid_of wiring.entry) (config_of wiring.entry) (held_in kept.old) (pads_of wiring.entry) → ⊥)) }
 {
-    let mut first = blank::<SIGNALS>();
-    let mut second = blank::<SIGNALS>();
+    let mut first = [false; SIGNALS];
+    let mut second = [false; SIGNALS];
     let signals = wiring.grid.signals();
     let levels = &mut first[0..signals];
     let next = &mut second[0..signals];
     if wiring.settle(kept, levels, next) {
-        wiring.write_held(levels, kept);
-        wiring.grid.write_outputs(levels, outs);
+        let moment = Moment { wiring, levels };
+        moment.write_held(kept);
+        moment.write_outputs(outs);
         Done::Ticked
     } else {
         Done::Restless

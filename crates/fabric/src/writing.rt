@@ -1,31 +1,35 @@
 // What a tick leaves: the held bits and the outputs.
-ghost use Rattle.std.specs.Prelude.{◌≡◌, ℕ, ◌+◌, ◌*◌, ◌<◌, length, slice_index};
+ghost use Rattle.std.specs.Prelude.{◌≡◌, ℕ, ◌<◌, length, slice_index};
 ghost use Rattle.design.specs.Designs.{bit};
 ghost use Rattle.fabric.specs.declared.parts.Side.{Side};
 ghost use Rattle.fabric.specs.Fabrics.{cell_count, lookup};
 ghost use Rattle.fabric.specs.Numbers.{pads_length, pad_place};
-ghost use Rattle.fabric.specs.Code.{size_of, grid_of, config_of, pads_of, signal_count, state_of, out_place};
+ghost use Rattle.fabric.specs.Code.{size_of, grid_of, config_of, pads_of, signal_count, levels_of, out_place};
 
 use crate::grid::Grid;
-use crate::wiring::Wiring;
+use crate::wiring::{Moment, Spot};
 
-// A level as a number.
-fn number(level: bool) -> u8
-    ensures { result ≡ bit level }
-{
-    if level { 1 } else { 0 }
-}
-
-impl Wiring<'_, '_> {
+impl Moment<'_> {
     // Writes what each cell looks up.
-    pub(crate) fn write_held(self, levels: &[bool], held: &mut [u8])
-        requires all { length levels.now ≡ signal_count (grid_of self) }
-        requires held { length held.old ≡ cell_count (grid_of self) }
-        ensures { (c : ℕ) → c < cell_count (grid_of self.entry) →
-            slice_index held.new c ≡ bit (lookup (grid_of self.entry) (config_of self.entry) (pads_of self.entry) (state_of (grid_of self.entry) levels.now) c) }
+    pub(crate) fn write_held(self, held: &mut [u8])
+        requires { length held.old ≡ cell_count (grid_of self.wiring) }
+        ensures { let w = self.entry.wiring in (c : ℕ) → c < cell_count (grid_of w) →
+            slice_index held.new c ≡ bit (lookup (grid_of w) (config_of w) (pads_of w) (levels_of self.entry) c) }
     {
-        for cell in 0..held.len() {
-            held[cell] = number(self.lookup(levels, cell));
+        for (cell, slot) in held.iter_mut().enumerate() {
+            let spot = Spot { moment: self, cell };
+            *slot = u8::from(spot.lookup());
+        }
+    }
+
+    // Writes what each track carries.
+    pub(crate) fn write_outputs(self, outs: &mut [u8])
+        requires { length outs.old ≡ pads_length (grid_of self.wiring) }
+        ensures { let w = self.entry.wiring in (c : ℕ) (s : Side) (t : ℕ) → c < cell_count (grid_of w) → t < w.grid.tracks →
+            slice_index outs.new (pad_place (grid_of w) c s t) ≡ bit ((levels_of self.entry).track c s t) }
+    {
+        for (place, slot) in outs.iter_mut().enumerate() {
+            *slot = u8::from(self.levels[self.wiring.grid.out_place(place)]);
         }
     }
 }
@@ -39,17 +43,5 @@ impl Grid {
     {
         let sides = 4 * self.tracks;
         place / sides * (1 + sides) + (1 + place % sides)
-    }
-
-    // Writes what each track carries.
-    pub(crate) fn write_outputs(self, levels: &[bool], outs: &mut [u8])
-        requires all { length levels.now ≡ signal_count (size_of self) }
-        requires outs { length outs.old ≡ pads_length (size_of self) }
-        ensures { (c : ℕ) (s : Side) (t : ℕ) → c < cell_count (size_of self) → t < self.tracks →
-            slice_index outs.new (pad_place (size_of self) c s t) ≡ bit ((state_of (size_of self) levels.now).track c s t) }
-    {
-        for place in 0..outs.len() {
-            outs[place] = number(levels[self.out_place(place)]);
-        }
     }
 }

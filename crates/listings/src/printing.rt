@@ -3,25 +3,12 @@ ghost use Rattle.std.specs.Prelude.{◌≡◌, ℕ, List, ◌++◌, IfOk, string
 ghost use Rattle.fabric.specs.Code.{size_of};
 ghost use Rattle.pages.specs.Growth.{Adds};
 ghost use Rattle.listings.specs.Printed.{size_text};
-ghost use Rattle.listings.specs.Sides.{side_word};
 
 use crate::parts::{Listing, Port};
 use fabric::grid::Grid;
 use fabric::parts::{Pin, Side, Source};
 use pages::page::Page;
 use std::alloc::{AllocError, Global};
-
-// The name of a side.
-fn side_name(side: Side) -> &'static str
-    ensures { result.now ≡ side_word side }
-{
-    match side {
-        Side::Right => "right",
-        Side::Below => "below",
-        Side::Left => "left",
-        Side::Above => "above",
-    }
-}
 
 // The numbers of one cell.
 fn cell_part(room: &[u16], grid: Grid, cell: usize) -> &[u16] {
@@ -54,14 +41,10 @@ fn holds(part: &[u16]) -> bool {
     number(part, 20) == 1
 }
 
-fn is_nothing(source: Source) -> bool {
-    matches!(source, Source::Nothing)
-}
-
 // Whether an input of the cell takes from anything.
 fn reads(part: &[u16]) -> bool {
     for k in 16..20usize {
-        if !is_nothing(Source::of(number(part, k))) {
+        if Source::from(number(part, k)) != Source::Nothing {
             return true;
         }
     }
@@ -76,7 +59,7 @@ fn used(part: &[u16]) -> bool {
 // A side and a track, as they are written.
 fn print_track(page: &mut Page, side: Side, track: u16) {
     page.add(" ");
-    page.add(side_name(side));
+    page.add(side.name());
     page.add(" ");
     page.number(track as u64);
 }
@@ -118,7 +101,7 @@ fn print_table(page: &mut Page, cell: usize, part: &[u16]) {
     print_hex(page, table(part));
     page.add(" from");
     for k in 16..20usize {
-        print_source(page, Source::of(number(part, k)));
+        print_source(page, Source::from(number(part, k)));
     }
     page.add("\n");
 }
@@ -135,8 +118,11 @@ fn print_holds(page: &mut Page, cell: usize, part: &[u16]) {
 // The tracks that go out of a cell on a side.
 fn print_drives(page: &mut Page, grid: Grid, cell: usize, part: &[u16], side: Side) {
     for track in 0..grid.tracks {
-        let source = Source::of(number(part, 22 + side.number() as usize * grid.tracks + track));
-        if !is_nothing(source) {
+        let source = Source::from(number(
+            part,
+            22 + u16::from(side) as usize * grid.tracks + track,
+        ));
+        if source != Source::Nothing {
             print_cell_number(page, cell);
             print_track(page, side, track as u16);
             page.add(" from");
@@ -153,10 +139,9 @@ fn print_cell(page: &mut Page, grid: Grid, cell: usize, part: &[u16]) {
     if holds(part) {
         print_holds(page, cell, part);
     }
-    print_drives(page, grid, cell, part, Side::Right);
-    print_drives(page, grid, cell, part, Side::Below);
-    print_drives(page, grid, cell, part, Side::Left);
-    print_drives(page, grid, cell, part, Side::Above);
+    for side in Side::ALL {
+        print_drives(page, grid, cell, part, side);
+    }
 }
 
 fn print_cells(page: &mut Page, grid: Grid, room: &[u16]) {

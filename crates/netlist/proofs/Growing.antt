@@ -1,148 +1,107 @@
--- A netlist that grows: what was right of it stays right.
-use Rattle.std.proofs.Common.{◌≡◌, ℕ, zero, suc, ◌+◌, ◌<◌, ◌≤◌, Bool, ◌≢◌, List, length, get_or, set, sym, refl, ap, ◌∙◌, inl, inr, ⊎_elim, arith, get_or-set_other, get_or-set_same}
-use Rattle.std.proofs.lemmas.Bool.{cases_eq}
-use Rattle.design.specs.Designs.{Words, Design, Expr, eval, total, input, register}
+-- A netlist that grows: what was right of it stays right, and a row of gates carries what its tables say.
+use Rattle.std.proofs.Common.{◌≡◌, ℕ, zero, suc, ◌+◌, ◌-◌, ◌<◌, ◌≤◌, Bool, false, refl, ap, ◌∙◌, ⊎_elim, arith}
+use Rattle.std.proofs.lemmas.Bool.{cases_lt}
+use Rattle.design.specs.Designs.{Words, Design, Expr}
 use Rattle.netlist.specs.declared.parts.Net.{Net}
-use Rattle.netlist.specs.declared.parts.Net.TheVariants.{Zero, Input, Cell}
+use Rattle.netlist.specs.declared.parts.Net.TheVariants.{Zero, Cell}
 use Rattle.netlist.specs.declared.parts.Cell.{Cell as CellT}
 use Rattle.netlist.specs.Netlists.{net_level}
-use Rattle.netlist.specs.Building.{gate, blank, cell_at, input_of, looked_up, Fits, Carries, GateOk, Built, Extends}
-use Rattle.netlist.proofs.Gates.{GivesOp, gate_looks_up}
+use Rattle.netlist.specs.Building.{Cells, register_bits, Signal, looked_up, Fits, BitsAre, There, Carries, CarriesWord, GateOk, Extends, Grows, Appended}
+use Rattle.netlist.proofs.Gates.{cell_there, zero_there}
 
-pub extends_refl : (f : ℕ) (cs : List CellT) (n : ℕ) → Extends f cs n cs n
-extends_refl f cs n = record { more = omega arith; same = λ c l h. refl }
+-- 1. Extending.
 
-pub extends_trans : (f : ℕ) (cs cs₁ cs₂ : List CellT) (n n₁ n₂ : ℕ) → Extends f cs n cs₁ n₁ → Extends f cs₁ n₁ cs₂ n₂ → Extends f cs n cs₂ n₂
+pub extends_trans : (f : ℕ) (cs cs₁ cs₂ : Cells) (n n₁ n₂ : ℕ) → Extends f cs n cs₁ n₁ → Extends f cs₁ n₁ cs₂ n₂ → Extends f cs n cs₂ n₂
 extends_trans f cs cs₁ cs₂ n n₁ n₂ a b = record {
   more = omega arith;
   same = λ c l h. b.same c l (omega (arith, a.more)) ∙ a.same c l h;
 }
 
-pub extends_from : (f f₁ : ℕ) (cs cs₁ : List CellT) (n n₁ : ℕ) → f ≤ f₁ → Extends f cs n cs₁ n₁ → Extends f₁ cs n cs₁ n₁
-extends_from f f₁ cs cs₁ n n₁ h a = record { more = a.more; same = λ c l u. a.same c (omega arith) u }
+pub extends_from : (f : ℕ) (cs cs₁ : Cells) (n n₁ : ℕ) → Extends 0 cs n cs₁ n₁ → Extends f cs n cs₁ n₁
+extends_from f cs cs₁ n n₁ a = record { more = a.more; same = λ c l u. a.same c (omega arith) u }
 
--- one cell more at the end; a cell before the first one written
-pub extends_push : (f : ℕ) (cs : List CellT) (n : ℕ) (cell : CellT) → Extends f cs n (set cs n cell) (n + 1)
-extends_push f cs n cell = record {
-  more = omega arith;
-  same = λ c l h. let ne : c ≢ n = omega arith in get_or-set_other cs n c cell blank ne;
-}
-
-pub extends_write : (f : ℕ) (cs : List CellT) (n r : ℕ) (cell : CellT) → r < f → Extends f cs n (set cs r cell) n
-extends_write f cs n r cell h = record {
-  more = omega arith;
-  same = λ c l u. let ne : c ≢ r = omega arith in get_or-set_other cs r c cell blank ne;
-}
-
-pub fits_before : (r : ℕ) (cs cs₁ : List CellT) (n n₁ : ℕ) (x h v : ℕ → Bool) → Extends r cs n cs₁ n₁ → Fits r cs₁ n₁ x h v → Fits r cs n x h v
+pub fits_before : (r : ℕ) (cs cs₁ : Cells) (n n₁ : ℕ) (x h v : ℕ → Bool) → Extends r cs n cs₁ n₁ → Fits r cs₁ n₁ x h v → Fits r cs n x h v
 fits_before r cs cs₁ n n₁ x h v e f = record {
   held = f.held;
   gates = λ c low high. f.gates c low (omega (arith, e.more)) ∙ ap (looked_up x v) (e.same c low high);
 }
 
-pub carries_more : (d : Design) (cs cs₁ : List CellT) (n n₁ : ℕ) (net : Net) (e : Expr) → Extends d.registers cs n cs₁ n₁ → Carries d cs n net e → Carries d cs₁ n₁ net e
-carries_more d cs cs₁ n n₁ net e ext c = record {
-  input = c.input;
-  cell = λ j is. omega (arith, c.cell j is, ext.more);
-  level = λ ins regs x h v xs hs f. c.level ins regs x h v xs hs (fits_before d.registers cs cs₁ n n₁ x h v ext f);
+pub there_more : (d : Design) (n n₁ : ℕ) (net : Net) → n ≤ n₁ → There d n net → There d n₁ net
+there_more d n n₁ net h t = record { input = t.input; cell = λ j q. omega (arith, t.cell j q) }
+
+pub carries_more : (d : Design) (cs cs₁ : Cells) (n n₁ : ℕ) (net : Net) (s : Signal) → Extends (register_bits d) cs n cs₁ n₁ → Carries d cs n net s → Carries d cs₁ n₁ net s
+carries_more d cs cs₁ n n₁ net s ext c = record {
+  there = there_more d n n₁ net ext.more c.there;
+  level = λ ins regs x h v bits f. c.level ins regs x h v bits (fits_before (register_bits d) cs cs₁ n n₁ x h v ext f);
 }
 
--- the facts of a netlist that is extended by one gate
-pub built_push : (d : Design) (e : ℕ → Expr) (nodes : ℕ) (cs : List CellT) (n : ℕ) (ns : List Net) (cell : CellT) →
-    Built d e nodes cs n ns → n < length cs → GateOk d n cell → Built d e nodes (set cs n cell) (n + 1) ns
-built_push d e nodes cs n ns cell b room ok = record {
-  registers = omega (arith, b.registers);
-  gates = λ c low high. ⊎_elim
-      (λ (q : c ≡ n). rw q (rw (get_or-set_same cs n cell blank) ok))
-      (λ (q : c ≡ n → ⊥). rw (get_or-set_other cs n c cell blank q) (b.gates c low (omega arith)))
-      (cases_eq c n);
-  nets = λ m h. ⊎_elim inl (λ w. inr (carries_more d cs (set cs n cell) n (n + 1) (get_or ns m Zero) (e m) (extends_push d.registers cs n cell) w)) (b.nets m h);
+pub gate_more : (d : Design) (c : ℕ) (cell cell₁ : CellT) → cell₁ ≡ cell → GateOk d c cell → GateOk d c cell₁
+gate_more d c cell cell₁ e g = rw e g
+
+-- 2. Growing.
+
+pub grows_refl : (d : Design) (cs : Cells) (n : ℕ) → Grows d cs n cs n
+grows_refl d cs n = record { extends = record { more = omega arith; same = λ c l h. refl }; gates = λ c l h. absurd (omega arith) }
+
+pub grows_trans : (d : Design) (cs cs₁ cs₂ : Cells) (n n₁ n₂ : ℕ) → Grows d cs n cs₁ n₁ → Grows d cs₁ n₁ cs₂ n₂ → Grows d cs n cs₂ n₂
+grows_trans d cs cs₁ cs₂ n n₁ n₂ a b = record {
+  extends = extends_trans 0 cs cs₁ cs₂ n n₁ n₂ a.extends b.extends;
+  gates = λ c l h. ⊎_elim
+      (λ (q : c < n₁). gate_more d c (cs₁ c) (cs₂ c) (b.extends.same c (omega arith) q) (a.gates c l q))
+      (λ (q : n₁ ≤ c). b.gates c q h)
+      (cases_lt c n₁);
 }
 
--- a register's cell is written
-pub built_write : (d : Design) (e : ℕ → Expr) (nodes : ℕ) (cs : List CellT) (n : ℕ) (ns : List Net) (r : ℕ) (cell : CellT) →
-    Built d e nodes cs n ns → r < d.registers → Built d e nodes (set cs r cell) n ns
-built_write d e nodes cs n ns r cell b h = record {
-  registers = b.registers;
-  gates = λ c low high. let ne : c ≢ r = omega arith in rw (get_or-set_other cs r c cell blank ne) (b.gates c low high);
-  nets = λ m l. ⊎_elim inl (λ w. inr (carries_more d cs (set cs r cell) n n (get_or ns m Zero) (e m) (extends_write d.registers cs n r cell h) w)) (b.nets m l);
-}
+-- what was carried still is
+pub grows_carries : (d : Design) (cs cs₁ : Cells) (n n₁ : ℕ) (net : Net) (s : Signal) → Grows d cs n cs₁ n₁ → Carries d cs n net s → Carries d cs₁ n₁ net s
+grows_carries d cs cs₁ n n₁ net s g c = carries_more d cs cs₁ n n₁ net s (extends_from (register_bits d) cs cs₁ n n₁ g.extends) c
 
--- a node's net is noted
-pub built_note : (d : Design) (e : ℕ → Expr) (nodes : ℕ) (cs : List CellT) (n : ℕ) (ns : List Net) (m : ℕ) (net : Net) →
-    Built d e nodes cs n ns → m < length ns → Carries d cs n net (e m) → Built d e nodes cs n (set ns m net)
-built_note d e nodes cs n ns m net b room w = record {
-  registers = b.registers;
-  gates = b.gates;
-  nets = λ k h. ⊎_elim
-      (λ (q : k ≡ m). inr (rw q (rw (get_or-set_same ns m net Zero) w)))
-      (λ (q : k ≡ m → ⊥). rw (get_or-set_other ns m k net Zero q) (b.nets k h))
-      (cases_eq k m);
-}
+pub grows_word : (d : Design) (cs cs₁ : Cells) (n n₁ : ℕ) (nets : ℕ → Net) (e : Expr) → Grows d cs n cs₁ n₁ → CarriesWord d cs n nets e → CarriesWord d cs₁ n₁ nets e
+grows_word d cs cs₁ n n₁ nets e g c k h = grows_carries d cs cs₁ n n₁ (nets k) _ g (c k h)
 
--- a gate of two nets that are there
-module _ (d : Design) (cs : List CellT) (n : ℕ) (a b : Net) (ea eb : Expr) (ca : Carries d cs n a ea) (cb : Carries d cs n b eb) where
-  gate_cells : (t k j : ℕ) → k < 4 → input_of (gate t a b) k ≡ Cell j → j < n
-  gate_cells t zero j h q = ca.cell j q
-  gate_cells t (suc zero) j h q = cb.cell j q
-  gate_cells t (suc (suc zero)) j h q = let z : ◌≡◌ {A = ℕ} 0 1 = cc in omega arith
-  gate_cells t (suc (suc (suc zero))) j h q = let z : ◌≡◌ {A = ℕ} 0 1 = cc in omega arith
-  gate_cells t (suc (suc (suc (suc k)))) j h q = omega arith
+-- all gates of a netlist that grows are right
+pub grows_gates : (d : Design) (cs cs₁ : Cells) (n n₁ r : ℕ) → Grows d cs n cs₁ n₁ → ((c : ℕ) → r ≤ c → c < n → GateOk d c (cs c)) → (c : ℕ) → r ≤ c → c < n₁ → GateOk d c (cs₁ c)
+grows_gates d cs cs₁ n n₁ r g before c low high = ⊎_elim
+    (λ (q : c < n). gate_more d c (cs c) (cs₁ c) (g.extends.same c (omega arith) q) (before c low q))
+    (λ (q : n ≤ c). g.gates c q high)
+    (cases_lt c n)
 
-  gate_inputs : (t k j : ℕ) → k < 4 → input_of (gate t a b) k ≡ Input j → j < d.inputs
-  gate_inputs t zero j h q = ca.input j q
-  gate_inputs t (suc zero) j h q = cb.input j q
-  gate_inputs t (suc (suc zero)) j h q = let z : ◌≡◌ {A = ℕ} 0 1 = cc in omega arith
-  gate_inputs t (suc (suc (suc zero))) j h q = let z : ◌≡◌ {A = ℕ} 0 1 = cc in omega arith
-  gate_inputs t (suc (suc (suc (suc k)))) j h q = omega arith
+-- a net that is always 0
+pub zero_carries : (d : Design) (cs : Cells) (n : ℕ) → Carries d cs n Zero (λ ins regs. false)
+unfolding net_level
+zero_carries d cs n = record { there = zero_there d n; level = λ ins regs x h v bits f. refl }
 
-  pub gate_ok : (t : ℕ) → GateOk d n (gate t a b)
-  gate_ok t = record { holds = refl; cells = gate_cells t; inputs = gate_inputs t }
+-- the same net under another name
+pub carries_as : (d : Design) (cs : Cells) (n : ℕ) (net net₁ : Net) (s : Signal) → net₁ ≡ net → Carries d cs n net s → Carries d cs n net₁ s
+carries_as d cs n net net₁ s e c = rw e c
 
-  -- it carries what its operation makes of theirs
-  pub gate_carries : (t : ℕ) (op : Bool → Bool → Bool) (e : Expr) → GivesOp t op →
-      ((ins regs : Words) → eval d ins regs e 0 ≡ op (eval d ins regs ea 0) (eval d ins regs eb 0)) →
-      d.registers ≤ n → n < length cs → Carries d (set cs n (gate t a b)) (n + 1) (Cell n) e
+-- 3. Rows: each cell reads what was there and earlier cells of the row, and looks up its signal.
+
+module _ (d : Design) (cs cs₁ : Cells) (n m : ℕ) (new : ℕ → CellT) (s : ℕ → Signal) (low : register_bits d ≤ n) (a : Appended cs n cs₁ m new)
+    (ok : (k : ℕ) → k < m → GateOk d (n + k) (new k))
+    (means : (k : ℕ) → k < m → (ins regs : Words) (x h v : ℕ → Bool) → BitsAre d ins regs x h → Fits (register_bits d) cs n x h v →
+    ((j : ℕ) → j < k → v (n + j) ≡ s j ins regs) → looked_up x v (new k) ≡ s k ins regs) where
+  pub row_grows : Grows d cs n cs₁ (n + m)
+  row_grows = record {
+    extends = record { more = omega arith; same = λ c l h. a.same c h };
+    gates = λ c l h.
+        let e : n + (c - n) ≡ c = omega arith in
+        let k : c - n < m = omega arith in
+        let g : GateOk d (n + (c - n)) (cs₁ (n + (c - n))) = gate_more d (n + (c - n)) (new (c - n)) (cs₁ (n + (c - n))) (a.added (c - n) k) (ok (c - n) k) in
+        rw e at g;
+  }
+
+  levels : (ins regs : Words) (x h v : ℕ → Bool) → BitsAre d ins regs x h → Fits (register_bits d) cs₁ (n + m) x h v →
+      (b k : ℕ) → k < b → k < m → v (n + k) ≡ s k ins regs
+  levels ins regs x h v bits f zero k l u = absurd (omega arith)
+  levels ins regs x h v bits f (suc b) k l u =
+      let f₀ = fits_before (register_bits d) cs cs₁ n (n + m) x h v (extends_from (register_bits d) cs cs₁ n (n + m) row_grows.extends) f in
+      f.gates (n + k) (omega arith) (omega arith) ∙ ap (looked_up x v) (a.added k u)
+      ∙ means k u ins regs x h v bits f₀ (λ j i. levels ins regs x h v bits f b j (omega arith) (omega arith))
+
+  pub row_carries : (k : ℕ) → k < m → Carries d cs₁ (n + m) (Cell (n + k)) (s k)
   unfolding net_level
-  gate_carries t op e table means low room = record {
-    input = λ j q. let z : ◌≡◌ {A = ℕ} 0 1 = cc in omega arith;
-    cell = λ j q. let s : n ≡ j = cc in omega arith;
-    level = λ ins regs x h v xs hs f.
-        let f₀ = fits_before d.registers cs (set cs n (gate t a b)) n (n + 1) x h v (extends_push d.registers cs n (gate t a b)) f in
-        let here : cell_at (set cs n (gate t a b)) n ≡ gate t a b = get_or-set_same cs n (gate t a b) blank room in
-        let up : v n ≡ looked_up x v (cell_at (set cs n (gate t a b)) n) = f.gates n low (omega arith) in
-        let la = ca.level ins regs x h v xs hs f₀ in
-        let lb = cb.level ins regs x h v xs hs f₀ in
-        let g = gate_looks_up t op table x v a b in
-        let m = means ins regs in
-        up ∙ ap (looked_up x v) here ∙ g ∙ ap (λ p. op p (net_level x v b)) la ∙ ap (λ q. op (eval d ins regs ea 0) q) lb ∙ sym m;
-  }
-
--- an input and a register of a design of single bits
-pub total_ones : (w : ℕ → ℕ) (n : ℕ) → ((i : ℕ) → i < n → w i ≡ 1) → (i : ℕ) → i ≤ n → total i w ≡ i
-unfolding total
-total_ones w n ones zero h = refl
-total_ones w n ones (suc i) h = omega (arith, total_ones w n ones i (omega arith), ones i (omega arith))
-
-module _ (d : Design) (cs : List CellT) (n : ℕ) where
-  pub input_carries : (i : ℕ) → i < d.inputs → ((j : ℕ) → j < d.inputs → d.input_width j ≡ 1) → Carries d cs n (Input i) (input i)
-  unfolding net_level eval
-  input_carries i h ones = record {
-    input = λ j q. let s : i ≡ j = cc in omega arith;
-    cell = λ j q. let z : ◌≡◌ {A = ℕ} 0 1 = cc in omega arith;
-    level = λ ins regs x h' v xs hs f.
-        let t : total i d.input_width + 0 ≡ i = omega (arith, total_ones d.input_width d.inputs ones i (omega arith)) in
-        let p : 0 < d.input_width i = omega (arith, ones i h) in
-        ap x (sym t) ∙ xs i 0 h p;
-  }
-
-  pub register_carries : (r : ℕ) → r < d.registers → d.registers ≤ n → ((j : ℕ) → j < d.registers → d.register_width j ≡ 1) → Carries d cs n (Cell r) (register r)
-  unfolding net_level eval
-  register_carries r h low ones = record {
-    input = λ j q. let z : ◌≡◌ {A = ℕ} 0 1 = cc in omega arith;
-    cell = λ j q. let s : r ≡ j = cc in omega arith;
-    level = λ ins regs x h' v xs hs f.
-        let t : total r d.register_width + 0 ≡ r = omega (arith, total_ones d.register_width d.registers ones r (omega arith)) in
-        let p : 0 < d.register_width r = omega (arith, ones r h) in
-        f.held r h ∙ ap h' (sym t) ∙ hs r 0 h p;
+  row_carries k u = record {
+    there = cell_there d (n + m) (n + k) (omega arith);
+    level = λ ins regs x h v bits f. levels ins regs x h v bits f (suc k) k (omega arith) u;
   }

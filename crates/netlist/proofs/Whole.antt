@@ -1,97 +1,259 @@
--- The lowering as a whole: how it begins, how it ends, and when it refuses.
-use Rattle.std.proofs.Common.{◌≡◌, ℕ, ◌<◌, ◌≤◌, min, Bool, true, false, ltb, List, get_or, is_some, Some, None, Option, sym, refl, inl, inr, arith}
-use Rattle.std.specs.Option.{option_map}
-use Rattle.std.specs.Bool.{then_some}
-use Rattle.std.proofs.lemmas.Bool.{cases_order, or_parts, eqb-true, lt-ltb, le-ltb, true≢false}
+-- The registers and outputs of a design in numbers, and the whole netlist.
+use Rattle.std.proofs.Common.{◌≡◌, ℕ, ◌+◌, ◌<◌, ◌≤◌, min, true, false, ltb, List, get_or, is_some, Some, None, sym, refl, ap, ◌∙◌, arith}
+use Rattle.std.proofs.lemmas.Bool.{and_parts, eqb-true, lt-ltb, le-ltb, both_ways}
 use Rattle.design.specs.declared.refusal.Refusal.{Refusal}
-use Rattle.design.specs.declared.refusal.Refusal.TheVariants.{Cells, NotYet}
-use Rattle.design.specs.Designs.{total, output_width, plain_cells, output_bits}
-use Rattle.design.specs.Numbers.{nodes_of, inputs_of, registers_of, first_failing, soundness_refusal, reading_refusal, design_in}
-use Rattle.design.proofs.First.{first_none}
-use Rattle.design.proofs.Reading.{neither, unmapped}
+use Rattle.design.specs.declared.refusal.Refusal.TheVariants.{Cells, NetTracks}
+use Rattle.design.specs.Designs.{word, width, width_ok, well_formed, register_sound, output_sound, cells, total, input_bits, output_width, output_cells, plain_cells, plain_tracks}
+use Rattle.design.specs.Numbers.{nodes_of, registers_of, outputs_of, register_node, output_node, design_in, reading_refusal, soundness_refusal}
+use Rattle.design.proofs.Reading.{Readable, readable}
 use Rattle.design.proofs.Sound.{sound_from_none}
-use Rattle.netlist.specs.declared.parts.Net.TheVariants.{Zero}
+use Rattle.netlist.proofs.Totals.{total_zero, total_more, total_one, total_below}
+use Rattle.netlist.specs.declared.bus.Bus.{Bus}
 use Rattle.netlist.specs.declared.work.Work.{Work}
 use Rattle.netlist.specs.declared.netlists.Netlist.{Netlist as NetlistT}
-use Rattle.netlist.specs.NotYet.{node_landed, input_single, register_single, wide, lowering_refusal}
-use Rattle.netlist.specs.Shapes.{Lowerable, RegistersAt, OutputsAt, Lowered, lower_refusal}
-use Rattle.netlist.proofs.Finished.{lowers}
-use Rattle.netlist.proofs.Growing.{total_ones}
-use Rattle.netlist.proofs.Roots.{single, complete}
+use Rattle.netlist.specs.Building.{cell_at, register_bits, CarriesWord, Extends, Laid, gate_row, register_row, RegistersAt, OutputsAt, registers_most, outputs_most, Lowering}
+use Rattle.netlist.specs.Rows.{net_of}
+use Rattle.netlist.specs.Works.{cells_of, bus_at, nets_at, is_laid, outs_of, zeros, Wrote, RowLaid, RowAsks}
+use Rattle.netlist.specs.Lowerings.{expr_in, Lowerable, Built, LayAsks, LayGives, RegistersIn, OutputsIn, netlist_of, words_refusal}
+use Rattle.netlist.proofs.Growing.{carries_more}
+use Rattle.netlist.proofs.Roots.{registers_begin, registers_step, outputs_begin, outputs_step}
+use Rattle.netlist.proofs.Finished.{plain_is_most, lowering}
+use Rattle.netlist.proofs.Laying.{node_small}
+use Rattle.netlist.proofs.Widths.{Range, width_range}
 
--- nothing is laid out yet
-pub begins : (xs : List ℕ) (w : Work) → w.count ≡ registers_of xs → ((k : ℕ) → get_or w.nets k Zero ≡ Zero) → RegistersAt xs w 0
-unfolding design_in total
-begins xs w e blank = record {
-  built = record { registers = omega (arith, e); gates = λ c low high. absurd (omega (arith, e)); nets = λ m h. inl (blank m) };
-  done = λ i h. absurd (omega arith);
-  few = omega (arith, e);
+-- nodes that are laid out stay so while cells are added or registers written, and nothing is noted
+built_more : (xs : List ℕ) (w w₁ : Work) → Extends (register_bits (design_in xs)) (cells_of w) w.count (cells_of w₁) w₁.count →
+    w₁.buses ≡ w.buses → Built xs w → Built xs w₁
+built_more xs w w₁ ext eb b = record {
+  low = omega (arith, b.low, ext.more);
+  buses = λ m h l.
+      let was : is_laid w m ≡ true = ap (λ bs. is_some (get_or bs m None)) (sym eb) ∙ l in
+      let c = b.buses m h was in
+      λ k u. rw eb (carries_more (design_in xs) (cells_of w) (cells_of w₁) w.count w₁.count (nets_at w m k) _ ext (c k u));
 }
 
-pub fits_all : (xs : List ℕ) (w : Work) → Lowerable xs → OutputsAt xs w (design_in xs).outputs → w.count ≤ plain_cells (design_in xs)
-unfolding plain_cells
-fits_all xs w ok a = a.few
+-- a node that is laid out
+laid_node : (xs : List ℕ) (w w₁ : Work) (n : ℕ) → n < nodes_of xs → LayGives xs w w₁ (Some n) →
+    Laid (design_in xs) (cells_of w) w.count (cells_of w₁) w₁.count (nets_at w₁ n) (expr_in xs n)
+laid_node xs w w₁ n h g = record { grows = g.grows; carries = g.built.buses n h g.laid }
 
--- everything is laid out
-pub finishes : (xs : List ℕ) (w : Work) (n : NetlistT) → Lowerable xs → OutputsAt xs w (design_in xs).outputs →
-    n.cells ≡ w.cells → n.count ≡ w.count → n.outputs ≡ w.outputs → Lowered (design_in xs) n
-unfolding output_bits
-finishes xs w n ok a ec en eo =
-    let d = design_in xs in
-    let s = single xs ok in
-    let bits : total d.outputs (output_width d) ≡ d.outputs = total_ones (output_width d) d.outputs s.outputs d.outputs (omega arith) in
-    let there : (m : ℕ) → m < d.outputs → get_or w.outputs m 0 < w.count = λ m h. (a.outputs.carried m h).cell (get_or w.outputs m 0) refl in
-    record {
-      lowers = rw (ec, en, eo) (lowers d w.cells w.count w.outputs s (complete xs ok w a));
-      few = omega (arith, fits_all xs w ok a);
-      outputs = λ m h. rw (eo, en) (there m (omega arith));
-      apart = λ m k hm hk e.
-          let same : get_or w.outputs m 0 ≡ get_or w.outputs k 0 = rw eo at e in
-          elim (cases_order m k) [
-            | inl q ↦ q
-            | inr q ↦ elim q [
-              | inl l ↦ absurd (omega (arith, a.outputs.rising m k l (omega arith)))
-              | inr l ↦ absurd (omega (arith, a.outputs.rising k m l (omega arith)))
-            ]
-          ];
+module _ (xs : List ℕ) (ok : Lowerable xs) where
+  read : Readable xs
+  read = readable xs ok.readable
+
+  small : outputs_most (design_in xs) (design_in xs).outputs ≤ 1024
+  small = omega (arith, plain_is_most (design_in xs), ok.few_cells)
+
+  -- 1. Registers.
+
+  register_formed : (r : ℕ) → r < (design_in xs).registers → (well_formed (design_in xs) ((design_in xs).next r) ≡ true) × (width (design_in xs) ((design_in xs).next r) ≡ (design_in xs).register_width r)
+  unfolding register_sound
+  register_formed r h =
+      let p = and_parts (width_ok ((design_in xs).register_width r)) _ (ok.sound.registers r h) in
+      let q = and_parts (well_formed (design_in xs) ((design_in xs).next r)) _ p.1 in
+      (q.0, eqb-true _ _ q.1)
+
+  next_fits : (r : ℕ) → r < (design_in xs).registers → registers_most (design_in xs) r + cells (design_in xs) ((design_in xs).next r) ≤ 1024
+  next_fits r h = omega (arith, small, total_one (λ i. cells (design_in xs) ((design_in xs).next i)) r (design_in xs).registers h)
+
+  pub register_asks : (w : Work) (r n : ℕ) → r < registers_of xs → n ≡ register_node xs r → RegistersIn xs w r → LayAsks xs w (Some n)
+  unfolding design_in
+  register_asks w r n h e a = rw e (record {
+    lowerable = ok;
+    built = a.built;
+    there = (read.registers r h, (register_formed r h).0);
+    room = omega (arith, a.few, next_fits r h);
+  })
+
+  register_bits_small : register_bits (design_in xs) ≤ 1024
+  register_bits_small = omega (arith, small)
+
+  pub register_place : (r start m : ℕ) → r < registers_of xs → start ≡ total r (design_in xs).register_width → m ≡ (design_in xs).register_width r → start + m ≤ 1024
+  unfolding design_in register_bits
+  register_place r start m h es em = omega (arith, register_bits_small, total_one (design_in xs).register_width r (design_in xs).registers h)
+
+  pub register_small : (r n : ℕ) → r < registers_of xs → n ≡ register_node xs r → n < 1024
+  register_small r n h e = node_small xs n ok (omega (arith, read.registers r h))
+
+  -- a register's next word is laid out, and its cells are written
+  module _ (w w₁ w₂ : Work) (r m v : ℕ) (x : Bus) (there : r < registers_of xs) (a : RegistersIn xs w r) (g : LayGives xs w w₁ (Some (register_node xs r)))
+      (em : m ≡ (design_in xs).register_width r) (ex : x ≡ bus_at w₁ (register_node xs r)) (ev : word v ≡ (design_in xs).initial r)
+      (wr : Wrote w₁ w₂ (total r (design_in xs).register_width) m (register_row (net_of x) (word v))) where
+    next_laid : Laid (design_in xs) (cells_of w) w.count (cells_of w₁) w₁.count (net_of x) ((design_in xs).next r)
+    unfolding design_in
+    next_laid = rw ex (laid_node xs w w₁ (register_node xs r) (read.registers r there) g)
+
+    gates_stay : Extends (register_bits (design_in xs)) (cells_of w₁) w₁.count (cells_of w₂) w₂.count
+    unfolding register_bits design_in
+    gates_stay = record {
+      more = omega (arith, wr.count);
+      same = λ c low high. wr.cells.above c (omega (arith, total_one (design_in xs).register_width r (design_in xs).registers there));
     }
 
--- refusals
-pub refuses_unsound : (xs : List ℕ) (f : Refusal) → soundness_refusal (design_in xs) ≡ Some f → lower_refusal xs ≡ Some f
-unfolding lower_refusal
+    at_step : RegistersAt (design_in xs) (cells_of w₂) w₁.count (r + 1)
+    unfolding design_in
+    at_step = registers_step (design_in xs) (cells_of w) (cells_of w₁) (cells_of w₂) w.count w₁.count r (net_of x) there a.at next_laid (register_formed r there).1 (rw (em, ev) at wr.cells)
+
+    register_done : RegistersIn xs w₂ (r + 1)
+    unfolding design_in
+    register_done = record {
+      built = built_more xs w₁ w₂ gates_stay wr.notes.buses g.built;
+      at = rw wr.count at_step;
+      few = omega (arith, a.few, g.few, wr.count, total_more r (λ i. cells (design_in xs) ((design_in xs).next i)));
+    }
+
+  pub register_step : (w w₁ w₂ : Work) (r n start m v : ℕ) (x : Bus) → r < registers_of xs → n ≡ register_node xs r → RegistersIn xs w r → LayGives xs w w₁ (Some n) →
+      start ≡ total r (design_in xs).register_width → m ≡ (design_in xs).register_width r → x ≡ bus_at w₁ n → word v ≡ (design_in xs).initial r →
+      Wrote w₁ w₂ start m (register_row (net_of x) (word v)) → RegistersIn xs w₂ (r + 1)
+  register_step w w₁ w₂ r n start m v x h e a g es em ex ev wr =
+      register_done w w₁ w₂ r m v x h a (rw e at g) em (ex ∙ ap (λ k. bus_at w₁ k) e) ev (rw es at wr)
+
+  -- 2. Outputs.
+
+  pub outputs_none : (w : Work) → RegistersIn xs w (design_in xs).registers → OutputsIn xs w 0
+  outputs_none w a = record {
+    built = a.built;
+    at = outputs_begin (design_in xs) (cells_of w) w.count (outs_of w) a.at;
+    few = omega (arith, a.few);
+  }
+
+  output_formed : (o : ℕ) → o < (design_in xs).outputs → well_formed (design_in xs) ((design_in xs).output o) ≡ true
+  unfolding output_sound
+  output_formed o h = ok.sound.outputs o h
+
+  output_fits : (o : ℕ) → o < (design_in xs).outputs → outputs_most (design_in xs) o + (cells (design_in xs) ((design_in xs).output o) + output_width (design_in xs) o) ≤ 1024
+  unfolding output_cells
+  output_fits o h = omega (arith, small, total_one (output_cells (design_in xs)) o (design_in xs).outputs h)
+
+  pub output_asks : (w : Work) (o n : ℕ) → o < outputs_of xs → n ≡ output_node xs o → OutputsIn xs w o → LayAsks xs w (Some n)
+  unfolding design_in
+  output_asks w o n h e a = rw e (record {
+    lowerable = ok;
+    built = a.built;
+    there = (read.outputs o h, output_formed o h);
+    room = omega (arith, a.few, output_fits o h);
+  })
+
+  -- the width of an output's node
+  pub output_wide : (o n m : ℕ) → o < outputs_of xs → n ≡ output_node xs o →
+      (n < nodes_of xs → well_formed (design_in xs) (expr_in xs n) ≡ true → m ≡ width (design_in xs) (expr_in xs n)) → m ≡ output_width (design_in xs) o
+  unfolding design_in output_width
+  output_wide o n m h e is = (rw e at is) (read.outputs o h) (output_formed o h)
+
+  module _ (w w₁ : Work) (o n m : ℕ) (there : o < outputs_of xs) (e : n ≡ output_node xs o) (a : OutputsIn xs w o) (g : LayGives xs w w₁ (Some n)) (em : m ≡ output_width (design_in xs) o) where
+    row_fits : w₁.count + m ≤ 1024
+    unfolding design_in
+    row_fits = let f : w₁.count ≤ w.count + cells (design_in xs) ((design_in xs).output o) = rw e at g.few in omega (arith, a.few, output_fits o there)
+
+    output_range : Range (output_width (design_in xs) o)
+    unfolding output_width design_in
+    output_range = width_range (design_in xs) ok.sound ((design_in xs).output o) (output_formed o there)
+
+    pub output_row : RowAsks w₁ n n m
+    output_row =
+        let s : n < 1024 = node_small xs n ok (omega (arith, read.outputs o there)) in
+        record { first = s; second = s; narrow = omega (arith, output_range.high); room = row_fits }
+
+    pub output_places : (start : ℕ) → start ≡ total o (output_width (design_in xs)) → start + m ≤ 1024
+    unfolding design_in output_cells
+    output_places start es =
+        omega (
+          arith,
+          small,
+          total_one (output_width (design_in xs)) o (design_in xs).outputs there,
+          total_below (output_width (design_in xs)) (output_cells (design_in xs)) (design_in xs).outputs (λ i h. omega arith),
+        )
+
+    -- it is passed on to cells of its own, which are noted
+    module _ (w₂ w₃ : Work) (bus : Bus) (start : ℕ) (es : start ≡ total o (output_width (design_in xs))) (r : RowLaid w₁ w₂ m (gate_row 2 (nets_at w₁ n) zeros zeros) bus)
+        (ec : w₃.cells ≡ w₂.cells) (en : w₃.count ≡ w₂.count) (eb : w₃.buses ≡ w₂.buses)
+        (old : (k : ℕ) → k < start → outs_of w₃ k ≡ outs_of w₂ k) (new : (k : ℕ) → k < m → outs_of w₃ (start + k) ≡ w₁.count + k) where
+      output_laid : Laid (design_in xs) (cells_of w) w.count (cells_of w₁) w₁.count (nets_at w₁ n) ((design_in xs).output o)
+      unfolding design_in
+      output_laid =
+          let h : n < nodes_of xs = omega (arith, read.outputs o there) in
+          let l = laid_node xs w w₁ n h g in
+          record { grows = l.grows; carries = carried }
+        where
+          carried : CarriesWord (design_in xs) (cells_of w₁) w₁.count (nets_at w₁ n) ((design_in xs).output o)
+          carried = as_output (output_node xs o) e (g.built.buses n (omega (arith, read.outputs o there)) g.laid)
+            where
+              as_output : (k : ℕ) → n ≡ k → CarriesWord (design_in xs) (cells_of w₁) w₁.count (nets_at w₁ n) (expr_in xs n) → CarriesWord (design_in xs) (cells_of w₁) w₁.count (nets_at w₁ n) (expr_in xs k)
+              as_output k q c = rw (← q) c
+
+      outs_old : (k : ℕ) → k < total o (output_width (design_in xs)) → outs_of w₃ k ≡ outs_of w k
+      outs_old k h = old k (omega arith) ∙ ap (λ l. get_or l k 0) (r.notes.outputs ∙ g.outputs)
+
+      at_output : OutputsAt (design_in xs) (cells_of w₂) (w₁.count + output_width (design_in xs) o) (outs_of w₃) (o + 1)
+      at_output = outputs_step (design_in xs) (cells_of w) (cells_of w₁) (cells_of w₂) w.count w₁.count o (outs_of w) (outs_of w₃) (nets_at w₁ n) zeros zeros a.at output_laid
+          (rw em at r.cells) (λ k h. refl) (λ k h. refl) outs_old (rw (es, em) at new)
+
+      grown : Extends (register_bits (design_in xs)) (cells_of w₁) w₁.count (cells_of w₃) w₃.count
+      grown = record { more = omega (arith, en, r.count); same = λ c low high. ap (λ cs. cell_at cs c) ec ∙ r.cells.same c high }
+
+      pub output_step : OutputsIn xs w₃ (o + 1)
+      unfolding output_cells design_in
+      output_step = record {
+        built = built_more xs w₁ w₃ grown (eb ∙ r.notes.buses) g.built;
+        at = rw (ec, en, r.count, em) at_output;
+        few = let f : w₁.count ≤ w.count + cells (design_in xs) ((design_in xs).output o) = rw e at g.few in
+            omega (arith, a.few, en, r.count, em, total_more o (output_cells (design_in xs)));
+      }
+
+-- 3. The whole.
+
+pub registers_none : (xs : List ℕ) (w : Work) (k : ℕ) → Lowerable xs → k ≡ min 65535 (total (registers_of xs) (design_in xs).register_width) → w.count ≡ k →
+    ((m : ℕ) → is_laid w m ≡ false) → RegistersIn xs w 0
+unfolding design_in register_bits
+registers_none xs w k ok ek e none =
+    let d = design_in xs in
+    let s : register_bits d ≤ 1024 = register_bits_small xs ok in
+    let c : w.count ≡ register_bits d = omega arith in
+    record {
+      built = record { low = omega arith; buses = λ m h l. absurd (both_ways (is_laid w m) (none m) l) };
+      at = rw c (registers_begin d (cells_of w));
+      few = omega (arith, total_zero (λ i. cells d (d.next i)));
+    }
+
+pub whole_small : (xs : List ℕ) (w : Work) → Lowerable xs → OutputsIn xs w (design_in xs).outputs → w.count ≤ 1024
+whole_small xs w ok a = omega (arith, a.few, small xs ok)
+
+pub finished : (xs : List ℕ) (w : Work) (n : NetlistT) → OutputsIn xs w (design_in xs).outputs → n.cells ≡ w.cells → n.count ≡ w.count → n.outputs ≡ w.outputs →
+    Lowering (design_in xs) (netlist_of n)
+finished xs w n a ec en eo = rw (ec, en, eo) (lowering (design_in xs) (cells_of w) w.count (outs_of w) a.at a.few)
+
+-- 4. Refusals.
+
+pub refuses_unsound : (xs : List ℕ) (f : Refusal) → soundness_refusal (design_in xs) ≡ Some f → words_refusal xs ≡ Some f
+unfolding words_refusal
 refuses_unsound xs f h = rw h refl
 
-pub refuses_cells : (xs : List ℕ) (n : ℕ) → soundness_refusal (design_in xs) ≡ None → n ≡ min 65536 (plain_cells (design_in xs)) → 1024 < n → lower_refusal xs ≡ Some (Cells n)
-unfolding lower_refusal
+pub refuses_cells : (xs : List ℕ) (n : ℕ) → soundness_refusal (design_in xs) ≡ None → n ≡ min 65536 (plain_cells (design_in xs)) → 1024 < n → words_refusal xs ≡ Some (Cells n)
+unfolding words_refusal
 refuses_cells xs n s e h = let t : ltb 1024 (plain_cells (design_in xs)) ≡ true = lt-ltb 1024 (plain_cells (design_in xs)) (omega arith) in rw (s, t, e) refl
 
-pub small_enough : (xs : List ℕ) (n : ℕ) → n ≡ min 65536 (plain_cells (design_in xs)) → n ≤ 1024 → plain_cells (design_in xs) ≤ 1024
-small_enough xs n e h = omega arith
+pub refuses_tracks : (xs : List ℕ) (n t : ℕ) → soundness_refusal (design_in xs) ≡ None → n ≡ min 65536 (plain_cells (design_in xs)) → n ≤ 1024 →
+    t ≡ min 65536 (plain_tracks (design_in xs)) → 65535 < t → words_refusal xs ≡ Some (NetTracks t)
+unfolding words_refusal
+refuses_tracks xs n t s e h et ht =
+    let a : ltb 1024 (plain_cells (design_in xs)) ≡ false = le-ltb 1024 (plain_cells (design_in xs)) (omega arith) in
+    let b : ltb 65535 (plain_tracks (design_in xs)) ≡ true = lt-ltb 65535 (plain_tracks (design_in xs)) (omega arith) in
+    rw (s, a, b, et) refl
 
-pub passes_on : (xs : List ℕ) (n : ℕ) → soundness_refusal (design_in xs) ≡ None → n ≡ min 65536 (plain_cells (design_in xs)) → n ≤ 1024 → lower_refusal xs ≡ lowering_refusal xs
-unfolding lower_refusal
-passes_on xs n s e h = let t : ltb 1024 (plain_cells (design_in xs)) ≡ false = le-ltb 1024 (plain_cells (design_in xs)) (omega arith) in rw (s, t) refl
+pub refuses_none : (xs : List ℕ) (n t : ℕ) → soundness_refusal (design_in xs) ≡ None → n ≡ min 65536 (plain_cells (design_in xs)) → n ≤ 1024 →
+    t ≡ min 65536 (plain_tracks (design_in xs)) → t ≤ 65535 → words_refusal xs ≡ None
+unfolding words_refusal
+refuses_none xs n t s e h et ht =
+    let a : ltb 1024 (plain_cells (design_in xs)) ≡ false = le-ltb 1024 (plain_cells (design_in xs)) (omega arith) in
+    let b : ltb 65535 (plain_tracks (design_in xs)) ≡ false = le-ltb 65535 (plain_tracks (design_in xs)) (omega arith) in
+    rw (s, a, b) refl
 
-not_wide : (b : Bool) (f : Refusal) → then_some b f ≡ None → b ≡ false
-not_wide true f h = absurd (let z : ◌≡◌ {A = ℕ} 0 1 = cc in omega arith)
-not_wide false f h = refl
-
-pub none_here : {X : Type 0} (o : Option X) → is_some o ≡ false → o ≡ None
-none_here None h = refl
-none_here (Some x) h = absurd (true≢false h)
-
-pub lowerable : (xs : List ℕ) → reading_refusal xs ≡ None → soundness_refusal (design_in xs) ≡ None → plain_cells (design_in xs) ≤ 1024 → None ≡ lowering_refusal xs → Lowerable xs
-unfolding lowering_refusal input_single register_single design_in
-lowerable xs r s small l =
-    let p = neither (option_map (λ n. NotYet n) (first_failing (node_landed xs) (nodes_of xs))) (then_some (wide xs) (NotYet (nodes_of xs))) (sym l) in
-    let w = or_parts (is_some (first_failing (input_single xs) (inputs_of xs))) (is_some (first_failing (register_single xs) (registers_of xs))) (not_wide (wide xs) (NotYet (nodes_of xs)) p.1) in
-    record {
-      bitwise = record {
-        readable = r;
-        landed = first_none (node_landed xs) (nodes_of xs) (unmapped (λ n. NotYet n) (first_failing (node_landed xs) (nodes_of xs)) p.0);
-        inputs = λ i h. eqb-true _ 1 (first_none (input_single xs) (inputs_of xs) (none_here _ w.0) i h);
-        registers = λ i h. eqb-true _ 1 (first_none (register_single xs) (registers_of xs) (none_here _ w.1) i h);
-      };
-      sound = sound_from_none (design_in xs) s;
-      small = small;
-    }
+pub lowerable : (xs : List ℕ) (n t : ℕ) → reading_refusal xs ≡ None → soundness_refusal (design_in xs) ≡ None → n ≡ min 65536 (plain_cells (design_in xs)) → n ≤ 1024 →
+    t ≡ min 65536 (plain_tracks (design_in xs)) → t ≤ 65535 → Lowerable xs
+unfolding plain_tracks input_bits
+lowerable xs n t r s e h et ht = record {
+  readable = r;
+  sound = sound_from_none (design_in xs) s;
+  few_cells = omega arith;
+  few_inputs = λ i small there. omega (arith, total_one (design_in xs).input_width i (design_in xs).inputs there);
+}

@@ -1,4 +1,6 @@
-pub mod Building
 pub mod Netlists
 pub mod NotYet
-pub mod Shapes
+pub mod Building
+pub mod Rows
+pub mod Works
+pub mod Lowerings

@@ -1,5 +1,5 @@
 // Which designs can be lowered: single bits, inputs, registers, and, xor.
-ghost use Rattle.std.specs.Prelude.{◌≡◌, not, is_some, Some, None, MatchOption};
+ghost use Rattle.std.specs.Prelude.{◌≡◌, ◌<◌, is_some, Some, None, MatchResult};
 ghost use Rattle.design.specs.Numbers.{inputs_of, registers_of, nodes_of, first_failing};
 ghost use Rattle.netlist.specs.NotYet.{kind_landed, node_landed, input_single, register_single, lowering_refusal};
 
@@ -7,7 +7,7 @@ use design::encoded::Encoded;
 use design::node::Node;
 use design::refusal::Refusal;
 
-fn landed(node: Node) -> bool
+fn kind_landed(node: Node) -> bool
     ensures { result ≡ kind_landed node }
 {
     matches!(
@@ -16,51 +16,45 @@ fn landed(node: Node) -> bool
     )
 }
 
+// Whether node n can be lowered.
+fn node_landed(design: Encoded<'_>, n: u16) -> bool
+    ensures { n < nodes_of design.entry.numbers.now → result ≡ node_landed design.entry.numbers.now n }
+{
+    kind_landed(design.node(n))
+}
+
 // The first node that can't be lowered yet.
 fn first_other(design: Encoded<'_>) -> Option<u16>
     ensures { result ≡ first_failing (node_landed design.entry.numbers.now) (nodes_of design.entry.numbers.now) }
 {
-    for n in 0..design.nodes() {
-        if !landed(design.node(n)) {
-            return Some(n);
-        }
-    }
-    None
+    (0..design.nodes()).find(|n| !node_landed(design, *n))
 }
 
 fn wide_input(design: Encoded<'_>) -> bool
     ensures { result ≡ is_some (first_failing (input_single design.entry.numbers.now) (inputs_of design.entry.numbers.now)) }
 {
-    for i in 0..design.inputs() {
-        if design.input_width(i) != 1 {
-            return true;
-        }
-    }
-    false
+    (0..design.inputs()).any(|i| design.input_width(i) != 1)
 }
 
 fn wide_register(design: Encoded<'_>) -> bool
     ensures { result ≡ is_some (first_failing (register_single design.entry.numbers.now) (registers_of design.entry.numbers.now)) }
 {
-    for r in 0..design.registers() {
-        if design.register(r).width != 1 {
-            return true;
-        }
-    }
-    false
+    (0..design.registers()).any(|r| design.register(r).width != 1)
 }
 
-// Why the design can't be lowered yet, if it can't.
-pub(crate) fn not_yet(design: Encoded<'_>) -> Option<Refusal>
-    ensures { result ≡ lowering_refusal design.entry.numbers.now }
+// Whether the design can be lowered yet; else why it can't.
+pub fn landed(design: Encoded<'_>) -> Result<(), Refusal>
+    ensures { MatchResult result
+        (λ _. lowering_refusal design.entry.numbers.now ≡ None)
+        (λ refusal. lowering_refusal design.entry.numbers.now ≡ Some refusal) }
 {
     if let Some(n) = first_other(design) {
-        return Some(Refusal::NotYet { node: n as u64 });
+        return Err(Refusal::NotYet { node: n as u64 });
     }
     if wide_input(design) || wide_register(design) {
-        return Some(Refusal::NotYet {
+        return Err(Refusal::NotYet {
             node: design.nodes() as u64,
         });
     }
-    None
+    Ok(())
 }

@@ -1,76 +1,124 @@
 // Laying out the nodes of a design as cells, each node at most once.
-ghost use Rattle.std.specs.Prelude.{◌≡◌, ℕ, ◌+◌, ◌<◌, ◌≤◌, Some, None, MatchResult};
+ghost use Rattle.std.specs.Prelude.{◌≡◌, Some, None, MatchResult};
 ghost use Rattle.design.specs.Numbers.{design_in};
-ghost use Rattle.netlist.specs.Shapes.{LayAsks, LayGives, Lowerable, RegistersAt, OutputsAt, Lowered, lower_refusal};
+ghost use Rattle.design.specs.Encodings.{list_of, design_of};
+ghost use Rattle.netlist.specs.Building.{Lowering};
+ghost use Rattle.netlist.specs.Lowerings.{LayAsks, LayGives, BuildAsks, BuildGives, Lowerable, RegistersIn, OutputsIn, netlist_of, Lowered, lower_refusal, words_refusal};
 
-use crate::landed::not_yet;
+use crate::bus::Bus;
+use crate::landed::landed;
 use crate::netlists::Netlist;
-use crate::parts::{Cell, Net};
-use crate::shape::{Shape, shape_of};
+use crate::operands::operands_of;
+use crate::operations::{AND, EQUAL, LESS, NOT, OR, PASS, SAME, XOR};
+use crate::row::Row;
+use crate::starts::bits_before;
 use crate::work::Work;
+use design::analysis::Analysis;
 use design::encoded::Encoded;
+use design::node::Node;
 use design::refusal::Refusal;
 use design::soundness::check;
 
-// The net of node n. A node names earlier nodes only, so the recursion ends.
-fn lay(design: Encoded<'_>, work: &mut Work, n: u16) -> Net
-    requires { LayAsks design.numbers.now work.old n }
-    ensures { LayGives design.entry.numbers.now work.old work.new n result }
+// The nets of node n, whose operands are laid out.
+fn build(analysis: &Analysis<'_>, work: &mut Work, n: u16, node: Node) -> Bus
+    requires { BuildAsks (list_of analysis.now.design) work.old n node }
+    ensures { BuildGives (list_of analysis.now.design) work.old work.new n node result }
 {
-    let known = work.net(n);
-    if let Net::Zero = known {
-        match shape_of(design.node(n)) {
-            Shape::Leaf(net) => work.note(n, net),
-            Shape::Gate { table, a, b } => {
-                let x = lay(design, work, a);
-                let y = lay(design, work, b);
-                let cell = work.push(Cell::gate(table, x, y));
-                work.note(n, Net::Cell(cell))
-            }
-        }
-    } else {
-        known
+    match node {
+        Node::Input(i) => Bus::inputs(bits_before(i, |j| analysis.design.input_width(j))),
+        Node::Register(r) => Bus::cells(bits_before(r, |j| analysis.design.register(j).width)),
+        Node::Constant { width, value } => work.push(Row::Constant { value }, width),
+        Node::And(a, b) => work.binary(AND, a, b, analysis.width(a)),
+        Node::Or(a, b) => work.binary(OR, a, b, analysis.width(a)),
+        Node::Xor(a, b) => work.binary(XOR, a, b, analysis.width(a)),
+        Node::Not(a) => work.unary(NOT, a, analysis.width(a)),
+        Node::Add(a, b) => work.add(a, b, analysis.width(a)),
+        Node::Less(a, b) => work.compare(LESS, LESS, a, b, analysis.width(a)),
+        Node::Equal(a, b) => work.compare(SAME, EQUAL, a, b, analysis.width(a)),
+        Node::Mux { choice, one, zero } => work.choose(choice, one, zero, analysis.width(one)),
+        Node::Slice { low, width: _, of } => work.bus(of).slice(low),
+        Node::Concat { high, low } => work.bus(high).above(work.bus(low), analysis.width(low)),
     }
 }
 
-// The cells of the registers, each with the net of what it becomes.
-fn lay_registers(design: Encoded<'_>, work: &mut Work)
-    requires lowerable { Lowerable design.numbers.now }
-    requires begun { RegistersAt design.numbers.now work.old 0 }
-    ensures { RegistersAt design.entry.numbers.now work.new (design_in design.entry.numbers.now).registers }
+// Lays a node out, unless it is laid out already; no node is laid out at once. A node names earlier nodes only, so the recursion ends.
+fn lay(analysis: &Analysis<'_>, work: &mut Work, node: Option<u16>)
+    requires { LayAsks (list_of analysis.now.design) work.old node }
+    ensures { LayGives (list_of analysis.now.design) work.old work.new node }
 {
+    let Some(n) = node else {
+        return;
+    };
+    if work.has(n) {
+        return;
+    }
+    let found = analysis.design.node(n);
+    let operands = operands_of(found);
+    lay(analysis, work, operands.first);
+    lay(analysis, work, operands.second);
+    lay(analysis, work, operands.third);
+    let bus = build(analysis, work, n, found);
+    work.note(n, bus);
+}
+
+// The cells of the registers, each with the net of the bit that it becomes.
+fn lay_registers(analysis: &Analysis<'_>, work: &mut Work)
+    requires lowerable { Lowerable (list_of analysis.now.design) }
+    requires begun { RegistersIn (list_of analysis.now.design) work.old 0 }
+    ensures { RegistersIn (list_of analysis.now.design) work.new (design_of analysis.now.design).registers }
+{
+    let design = analysis.design;
+    let mut start: u16 = 0;
     for r in 0..design.registers() {
         let register = design.register(r);
-        let net = lay(design, work, register.next);
-        work.hold(r, Cell::register(net, register.initial % 2 == 1));
+        lay(analysis, work, Some(register.next));
+        let next = work.bus(register.next);
+        work.write(
+            start,
+            Row::Register {
+                next,
+                initial: register.initial,
+            },
+            register.width,
+        );
+        start += register.width;
     }
 }
 
-// The cells of the outputs, each of which passes a net on.
-fn lay_outputs(design: Encoded<'_>, work: &mut Work)
-    requires lowerable { Lowerable design.numbers.now }
-    requires begun { OutputsAt design.numbers.now work.old 0 }
-    ensures { OutputsAt design.entry.numbers.now work.new (design_in design.entry.numbers.now).outputs }
+// The cells of the outputs, each of which passes a bit on.
+fn lay_outputs(analysis: &Analysis<'_>, work: &mut Work)
+    requires lowerable { Lowerable (list_of analysis.now.design) }
+    requires begun { OutputsIn (list_of analysis.now.design) work.old 0 }
+    ensures { OutputsIn (list_of analysis.now.design) work.new (design_of analysis.now.design).outputs }
 {
+    let design = analysis.design;
+    let mut start: u16 = 0;
     for o in 0..design.outputs() {
-        let net = lay(design, work, design.output(o));
-        let cell = work.push(Cell::gate(2, net, Net::Zero));
-        work.show(o, cell);
+        let node = design.output(o);
+        lay(analysis, work, Some(node));
+        let width = analysis.width(node);
+        let first = work.count as u16;
+        work.unary(PASS, node, width);
+        work.show(start, first, width);
+        start += width;
     }
 }
 
 // The netlist of a design that can be lowered.
-fn build(design: Encoded<'_>) -> Netlist
-    requires { Lowerable design.numbers.now }
-    ensures { Lowered (design_in design.entry.numbers.now) result }
+fn whole(analysis: &Analysis<'_>) -> Netlist
+    requires { Lowerable (list_of analysis.now.design) }
+    ensures { Lowering (design_of analysis.now.design) (netlist_of result) }
 {
-    let mut work = Work::new(design.registers());
-    lay_registers(design, &mut work);
-    lay_outputs(design, &mut work);
+    let design = analysis.design;
+    let mut work = Work::new(
+        bits_before(design.registers(), |r| design.register(r).width) as usize,
+    );
+    lay_registers(analysis, &mut work);
+    lay_outputs(analysis, &mut work);
     Netlist::new(work.cells, work.count, work.outputs)
 }
 
-// The netlist of a design, or the first reason why there is none.
+// The netlist of a design of single bits, inputs, registers, and, xor; or the first reason why there is none.
 pub fn lower(design: Encoded<'_>) -> Result<Netlist, Refusal>
     ensures { MatchResult result
         (λ n. (lower_refusal design.entry.numbers.now ≡ None) × Lowered (design_in design.entry.numbers.now) n)
@@ -82,8 +130,26 @@ pub fn lower(design: Encoded<'_>) -> Result<Netlist, Refusal>
             needed: counts.cells,
         });
     }
-    if let Some(refusal) = not_yet(design) {
-        return Err(refusal);
+    landed(design)?;
+    Ok(whole(&Analysis::new(design)))
+}
+
+// The netlist of a design of words of up to 64 bits, or the first reason why there is none.
+pub fn lower_words(design: Encoded<'_>) -> Result<Netlist, Refusal>
+    ensures { MatchResult result
+        (λ n. (words_refusal (list_of design.entry) ≡ None) × Lowering (design_of design.entry) (netlist_of n))
+        (λ f. words_refusal (list_of design.entry) ≡ Some f) }
+{
+    let counts = check(design)?;
+    if counts.cells > 1024 {
+        return Err(Refusal::Cells {
+            needed: counts.cells,
+        });
     }
-    Ok(build(design))
+    if counts.tracks > 65535 {
+        return Err(Refusal::NetTracks {
+            needed: counts.tracks,
+        });
+    }
+    Ok(whole(&Analysis::new(design)))
 }

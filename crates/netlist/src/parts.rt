@@ -1,4 +1,7 @@
 // The parts of a netlist.
+ghost use Rattle.std.specs.Prelude.{◌≡◌};
+ghost use Rattle.netlist.specs.declared.parts.Net.TheVariants.{Zero};
+ghost use Rattle.netlist.specs.Building.{gate, blank, register_cell};
 
 // What an input of a cell reads: nothing, which is 0, a bit of the inputs, or what a cell shows. Input bits are counted over all
 // inputs, word by word from the low bit.
@@ -17,4 +20,44 @@ pub struct Cell {
     pub inputs: [Net; 4],
     pub holds: bool,
     pub initial: bool,
+}
+
+impl Cell {
+    // A cell of three inputs; bit k of the table is what it looks up where the first counts 1, the second 2 and the third 4.
+    pub fn gate_of_three(table: u16, a: Net, b: Net, c: Net) -> Cell
+        ensures { result ≡ gate table a b c }
+    {
+        Cell {
+            table,
+            inputs: [a, b, c, Net::Zero],
+            holds: false,
+            initial: false,
+        }
+    }
+
+    // A cell of two inputs; bit k of the table is what it looks up where the first counts 1 and the second 2.
+    pub fn gate(table: u16, a: Net, b: Net) -> Cell
+        ensures { result ≡ gate table a b Zero }
+    {
+        Cell::gate_of_three(table, a, b, Net::Zero)
+    }
+
+    // A cell that holds the net.
+    pub fn register(next: Net, initial: bool) -> Cell
+        ensures { result ≡ register_cell next initial }
+    {
+        Cell {
+            table: 2,
+            inputs: [next, Net::Zero, Net::Zero, Net::Zero],
+            holds: true,
+            initial,
+        }
+    }
+
+    // A cell that shows 0.
+    pub fn blank() -> Cell
+        ensures { result ≡ blank }
+    {
+        Cell::gate(0, Net::Zero, Net::Zero)
+    }
 }

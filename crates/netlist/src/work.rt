@@ -1,148 +1,112 @@
 // A netlist under construction.
-ghost use Rattle.std.specs.Prelude.{◌≡◌, ℕ, ◌+◌, ◌<◌, true, false, length, slice_index_or, slice_set};
-ghost use Rattle.netlist.specs.declared.parts.Net.TheVariants.{Zero};
-ghost use Rattle.netlist.specs.Building.{gate, blank, register_cell};
+ghost use Rattle.std.specs.Prelude.{◌≡◌, ℕ, ◌+◌, ◌<◌, ◌≤◌, false, length, Some, slice_set};
+ghost use Rattle.netlist.specs.Rows.{row_cell};
+ghost use Rattle.netlist.specs.Works.{is_laid, bus_at, outs_of, Wrote, RowLaid};
 
-use crate::parts::{Cell, Net};
+use crate::bus::Bus;
+use crate::parts::Cell;
+use crate::row::Row;
 
-// The cells so far, registers first; the net of each node that is laid out, else `Zero`; the cells of the outputs so far.
+// The cells so far, registers first; the nets of each node that is laid out; the cells of the output bits so far.
 #[derive(Drop)]
 pub(crate) struct Work {
     pub cells: [Cell; 1024],
     pub count: usize,
-    pub nets: [Net; 1024],
+    pub buses: [Option<Bus>; 1024],
     pub outputs: [u16; 1024],
-}
-
-impl Cell {
-    // A cell of two inputs; bit k of the table is what it looks up where the first counts 1 and the second 2.
-    pub fn gate(table: u16, a: Net, b: Net) -> Cell
-        ensures { result ≡ gate table a b }
-    {
-        Cell {
-            table,
-            inputs: [a, b, Net::Zero, Net::Zero],
-            holds: false,
-            initial: false,
-        }
-    }
-
-    // A cell that holds the net.
-    pub fn register(next: Net, initial: bool) -> Cell
-        ensures { result ≡ register_cell next initial }
-    {
-        Cell {
-            table: 2,
-            inputs: [next, Net::Zero, Net::Zero, Net::Zero],
-            holds: true,
-            initial,
-        }
-    }
-
-    // A cell that shows 0.
-    pub fn blank() -> Cell
-        ensures { result ≡ blank }
-    {
-        Cell::gate(0, Net::Zero, Net::Zero)
-    }
-}
-
-// Nets that are all `Zero`.
-fn unknown<const N: usize>() -> [Net; N]
-    ensures { (k : ℕ) → slice_index_or result k Zero ≡ Zero }
-{
-    [Net::Zero; N]
-}
-
-fn blank_cells<const N: usize>() -> [Cell; N] {
-    [Cell::blank(); N]
-}
-
-fn zeros<const N: usize>() -> [u16; N] {
-    [0; N]
 }
 
 impl Work {
     // Only the registers' cells are there, not written yet.
-    pub(crate) fn new(registers: u16) -> Work
-        ensures count { result.count ≡ registers }
-        ensures nets { (k : ℕ) → slice_index_or result.nets k Zero ≡ Zero }
+    pub(crate) fn new(register_bits: usize) -> Work
+        ensures count { result.count ≡ register_bits }
+        ensures none { (k : ℕ) → is_laid result k ≡ false }
     {
         Work {
-            cells: blank_cells(),
-            count: registers as usize,
-            nets: unknown(),
-            outputs: zeros(),
+            cells: [Cell::blank(); 1024],
+            count: register_bits,
+            buses: [None; 1024],
+            outputs: [0; 1024],
         }
     }
 
-    // One cell more; its number.
-    pub(crate) fn push(&mut self, cell: Cell) -> u16
-        requires { self.old.count < 1024 }
-        ensures number { result ≡ self.old.count }
-        ensures room { length self.old.cells ≡ 1024 }
-        ensures after { self.new ≡ record {
-          cells = slice_set self.old.cells self.old.count cell;
-          count = self.old.count + 1;
-          nets = self.old.nets;
-          outputs = self.old.outputs;
-        } }
+    // Whether node n is laid out.
+    pub(crate) fn has(&self, n: u16) -> bool
+        requires { n < 1024 }
+        ensures { result ≡ is_laid self.now n }
     {
-        let number = self.count;
-        self.cells[number] = cell;
-        self.count = number + 1;
-        number as u16
+        self.buses[n as usize].is_some()
     }
 
-    // The net of node n, `Zero` till it is noted.
-    pub(crate) fn net(&self, n: u16) -> Net
+    // The nets of node n, which is laid out.
+    pub(crate) fn bus(&self, n: u16) -> Bus
         requires { n < 1024 }
-        ensures { result ≡ slice_index_or self.now.nets n Zero }
+        ensures { result ≡ bus_at self.now n }
     {
-        self.nets[n as usize]
+        self.buses[n as usize].unwrap_or(Bus::zero())
     }
 
-    // Notes the net of node n, and gives it back.
-    pub(crate) fn note(&mut self, n: u16, net: Net) -> Net
+    // Node n is laid out, and these are its nets.
+    pub(crate) fn note(&mut self, n: u16, bus: Bus)
         requires { n < 1024 }
-        ensures same { result ≡ net }
-        ensures room { length self.old.nets ≡ 1024 }
+        ensures room { length self.old.buses ≡ 1024 }
         ensures after { self.new ≡ record {
           cells = self.old.cells;
           count = self.old.count;
-          nets = slice_set self.old.nets n net;
+          buses = slice_set self.old.buses n (Some bus);
           outputs = self.old.outputs;
         } }
     {
-        self.nets[n as usize] = net;
-        net
+        self.buses[n as usize] = Some(bus);
     }
 
-    // Writes the cell of register r.
-    pub(crate) fn hold(&mut self, r: u16, cell: Cell)
-        requires { r < 1024 }
+    // Writes a cell.
+    fn put(&mut self, at: u16, cell: Cell)
+        requires { at < 1024 }
         ensures room { length self.old.cells ≡ 1024 }
         ensures after { self.new ≡ record {
-          cells = slice_set self.old.cells r cell;
+          cells = slice_set self.old.cells at cell;
           count = self.old.count;
-          nets = self.old.nets;
+          buses = self.old.buses;
           outputs = self.old.outputs;
         } }
     {
-        self.cells[r as usize] = cell;
+        self.cells[at as usize] = cell;
     }
 
-    // Notes the cell of output o.
-    pub(crate) fn show(&mut self, o: u16, cell: u16)
-        requires { o < 1024 }
-        ensures room { length self.old.outputs ≡ 1024 }
-        ensures after { self.new ≡ record {
-          cells = self.old.cells;
-          count = self.old.count;
-          nets = self.old.nets;
-          outputs = slice_set self.old.outputs o cell;
-        } }
+    // Writes a row of cells from `at` on.
+    pub(crate) fn write(&mut self, at: u16, row: Row, width: u16)
+        requires { at + width ≤ 1024 }
+        ensures { Wrote self.old self.new at width (row_cell row at) }
     {
-        self.outputs[o as usize] = cell;
+        for k in 0..width {
+            self.put(at + k, row.cell(at, k));
+        }
+    }
+
+    // Adds a row of cells, and gives their nets.
+    pub(crate) fn push(&mut self, row: Row, width: u16) -> Bus
+        requires { self.old.count + width ≤ 1024 }
+        ensures { RowLaid self.old self.new width (row_cell row self.old.count) result }
+    {
+        let start = self.count as u16;
+        self.write(start, row, width);
+        self.count += width as usize;
+        Bus::cells(start)
+    }
+
+    // Notes that output bits from `at` on are shown by the cells from `first` on.
+    pub(crate) fn show(&mut self, at: u16, first: u16, width: u16)
+        requires places { at + width ≤ 1024 }
+        requires cells { first + width ≤ 1024 }
+        ensures cells { self.new.cells ≡ self.old.cells }
+        ensures count { self.new.count ≡ self.old.count }
+        ensures buses { self.new.buses ≡ self.old.buses }
+        ensures old { (m : ℕ) → m < at → outs_of self.new m ≡ outs_of self.old m }
+        ensures new { (k : ℕ) → k < width → outs_of self.new (at + k) ≡ first + k }
+    {
+        for k in 0..width {
+            self.outputs[(at + k) as usize] = first + k;
+        }
     }
 }

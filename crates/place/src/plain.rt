@@ -25,6 +25,7 @@ impl Placement {
     }
 
     // The net of the cell that stands on a cell of the fabric, or zero where none does.
+    #[tactic(auto, using(std::proofs::lemmas::Bool::Decides::nat_tests), unfolding(crate::specs::Plain::plain_occupant))]
     pub fn occupant(self, cell: u16) -> Net
         ensures { result ≡ plain_occupant self.count cell }
     {

@@ -4,11 +4,11 @@ use Rattle.std.proofs.lemmas.Bool.{ltb-true, and_parts}
 use Rattle.design.specs.declared.node.Node.{Node}
 use Rattle.design.specs.declared.node.Node.TheVariants.{Input, Register, Constant, And, Or, Xor, Not, Add, Less, Equal, Mux, Slice, Concat}
 use Rattle.design.specs.Designs.{word, eval}
-use Rattle.design.specs.Numbers.{names_below, expr_of, design_in}
+use Rattle.design.specs.Numbers.{names_below, expr_of, node_expr, design_in}
 use Rattle.player.specs.declared.operations.Operation.{Operation}
 use Rattle.player.specs.declared.operations.Operation.TheVariants as on
 use Rattle.player.specs.Plays.{words_in}
-use Rattle.player.specs.Tables.{Evaluates, node_expr, Known, Wide, Fetches}
+use Rattle.player.specs.Tables.{Evaluates, Known, Wide, Fetches}
 use Rattle.player.proofs.Expressions.{and_bits, or_bits, xor_bits, not_bits, add_bits, less_bits, equal_bits, mux_bits, slice_bits, concat_bits}
 
 -- a node by what it is

@@ -4,14 +4,14 @@ use Rattle.std.proofs.lemmas.Bool.{and_parts, ltb-true, leb-true, cases_eq}
 use Rattle.std.proofs.lemmas.List.{get_or-set_same, get_or-set_other}
 use Rattle.design.specs.declared.node.Node.{Node}
 use Rattle.design.specs.Designs.{Expr, input, register, constant, and, or, xor, not, add, less, equal, mux, slice, concat, Design, Sound, width, well_formed, width_ok, register_sound, input_sound, number, eval}
-use Rattle.design.specs.Numbers.{nodes_of, node_in, names_below, design_in, reading_refusal}
+use Rattle.design.specs.Numbers.{nodes_of, node_in, names_below, node_expr, design_in, reading_refusal}
 use Rattle.design.proofs.Exprs.{expr_at_node}
 use Rattle.design_laws.proofs.Arithmetic.{same_number}
 use Rattle.design_laws.proofs.Locality.{operands}
 use Rattle.player.specs.declared.operations.Operation.{Operation}
 use Rattle.player.specs.Operations.{operation_bit}
 use Rattle.player.specs.Plays.{words_in}
-use Rattle.player.specs.Tables.{Evaluates, node_expr, Known, Wide, Fetches, Evaluated}
+use Rattle.player.specs.Tables.{Evaluates, Known, Wide, Fetches, Evaluated}
 
 -- in a sound design no width is above 64
 fits : (w : ℕ) → width_ok w ≡ true → w ≤ 64

@@ -2,7 +2,7 @@
 use Rattle.std.proofs.Common.{◌≡◌, ℕ, ◌<◌, ◌≤◌, min, true, List, get_or, None, refl, ap, ◌∙◌}
 use Rattle.std.proofs.lemmas.Bool.{lt-ltb}
 use Rattle.design.specs.Designs.{Word, Words, register, Design, Sound, width, well_formed, number, word, eval, output_width, output_sound}
-use Rattle.design.specs.Numbers.{nodes_of, register_node, output_node, design_in, reading_refusal, soundness_refusal}
+use Rattle.design.specs.Numbers.{nodes_of, register_node, output_node, node_expr, design_in, reading_refusal, soundness_refusal}
 use Rattle.design.proofs.Reading.{readable}
 use Rattle.design.proofs.Sound.{sound_from_none}
 use Rattle.design_laws.specs.Laws.{Alike}
@@ -11,7 +11,7 @@ use Rattle.design_laws.proofs.Locality.{next_of, widths_suffice}
 use Rattle.player.specs.declared.operations.Operation.TheVariants.{Same}
 use Rattle.player.specs.Operations.{operation_bit}
 use Rattle.player.specs.Plays.{words_in, Holds, Shows, Ticks}
-use Rattle.player.specs.Tables.{node_expr, Tabled, Taken}
+use Rattle.player.specs.Tables.{Tabled, Taken}
 use Rattle.player.proofs.Passing.{width_fits, cut}
 
 -- a register of a sound design has a width of at most 64

@@ -2,7 +2,7 @@
 use Rattle.std.specs.Prelude.{◌≡◌, ℕ, ◌<◌, ◌≤◌, true, List, slice_index}
 use Rattle.design.specs.declared.node.Node.{Node}
 use Rattle.design.specs.Designs.{Words, Expr, Design, Sound, width, well_formed, number, eval}
-use Rattle.design.specs.Numbers.{nodes_of, names_below, expr_of, expr_at, design_in}
+use Rattle.design.specs.Numbers.{nodes_of, names_below, expr_of, node_expr, design_in}
 use Rattle.player.specs.declared.operations.Operation.{Operation}
 use Rattle.player.specs.Operations.{operation_bit}
 use Rattle.player.specs.Plays.{words_in, Lists}
@@ -10,10 +10,6 @@ use Rattle.player.specs.Plays.{words_in, Lists}
 -- the number of the word of a well-formed expression
 abbrev pub Evaluates : Design → (ins regs : Words) → Expr → ℕ → Type 0
 Evaluates d ins regs e v = well_formed d e ≡ true → v ≡ number (width d e) (eval d ins regs e)
-
--- the expression of a node
-abbrev pub node_expr : List ℕ → ℕ → Expr
-node_expr xs = expr_at xs (nodes_of xs)
 
 -- the words of the first n nodes
 abbrev pub Known : (xs inputs registers : List ℕ) → ℕ → List ℕ → Type 0

@@ -1,11 +1,11 @@
 // Why a design isn't played.
 ghost use Rattle.std.specs.Prelude.{◌≡◌};
-ghost use Rattle.player.specs.declared.fault.Fault.TheVariants.{Memory};
+ghost use Rattle.player.specs.declared.fault.Fault.TheVariants.{Memory, Turned};
 
 use design::refusal::Refusal;
 use std::alloc::AllocFailed;
 
-#[derive(Clone, Copy)]
+#[derive(Clone, Copy, PartialEq, Eq, Debug)]
 pub enum Fault {
     // there is no memory left
     Memory,
@@ -18,5 +18,13 @@ impl<T: Drop> From<AllocFailed<T>> for Fault {
 
     fn from(_e: AllocFailed<T>) -> Fault {
         Fault::Memory
+    }
+}
+
+impl From<Refusal> for Fault {
+    ghost from_gives = { λ refusal fault. fault ≡ Turned refusal };
+
+    fn from(refusal: Refusal) -> Fault {
+        Fault::Turned(refusal)
     }
 }

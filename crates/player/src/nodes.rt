@@ -11,12 +11,7 @@ use design::node::Node;
 pub(crate) fn at(numbers: &[u64], place: u16) -> u64
     ensures { result ≡ slice_index numbers.now place }
 {
-    let place = place as usize;
-    if place < numbers.len() {
-        numbers[place]
-    } else {
-        0
-    }
+    numbers.get(place as usize).copied().unwrap_or(0)
 }
 
 // The width of a node that is well-formed; at most 64, whatever the node is.
@@ -87,15 +82,11 @@ fn evaluate(
     joined(operation, width(analysis, n))
 }
 
-fn blank<const N: usize>() -> [u64; N] {
-    [0; N]
-}
-
 // The words of all nodes.
 pub(crate) fn table(analysis: &Analysis<'_>, inputs: &[u64], registers: &[u64]) -> [u64; 1024]
     ensures { Tabled (list_of analysis.now.design) inputs.now registers.now result }
 {
-    let mut known: [u64; 1024] = blank();
+    let mut known = [0; 1024];
     let nodes = analysis.design.nodes();
     for n in 0..nodes {
         known[n as usize] = evaluate(analysis, inputs, registers, &known, n);

@@ -31,9 +31,7 @@ impl<'a> Player<'a> {
             × Holds (design_of design.entry) (design_of design.entry).initial (held player))
             (λ fault. Refuses (design_of design.entry) fault) }
     {
-        if let Err(refusal) = check(design) {
-            return Err(Fault::Turned(refusal));
-        }
+        check(design)?;
         let words = words::initial(heap, design)?;
         Ok(Player {
             heap,

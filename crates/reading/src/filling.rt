@@ -14,7 +14,7 @@ fn track_place(grid: Grid, side: Side, track: u16) -> Option<usize>
 {
     let track = track as usize;
     if track < grid.tracks {
-        Some(side.number() as usize * grid.tracks + track)
+        Some(u16::from(side) as usize * grid.tracks + track)
     } else {
         None
     }
@@ -47,7 +47,7 @@ fn write_table(room: &mut [u16], start: usize, table: u16) {
 
 fn write_sources(room: &mut [u16], start: usize, sources: [Source; 4]) {
     for (k, source) in sources.iter().enumerate() {
-        write(room, start.saturating_add(k), source.number());
+        write(room, start.saturating_add(k), u16::from(*source));
     }
 }
 
@@ -89,7 +89,7 @@ pub(crate) fn set_drive(
     };
     let at = place(grid, cell, 22 + k);
     let free = is_free(room, at);
-    write(room, at, source.number());
+    write(room, at, u16::from(source));
     free
 }
 

@@ -11,6 +11,7 @@ use crate::unread::Unread;
 use entries::entry::{Entry, Seat};
 use entries::lines::read_entry;
 use fabric::grid::Grid;
+use fabric::size::Size;
 use listings::parts::Listing;
 use std::alloc::Global;
 use words::cutting::{lines, words};
@@ -19,7 +20,12 @@ use words::cutting::{lines, words};
 fn grid_of(rows: u64, columns: u64, tracks: u64) -> Result<Grid, Unread>
     ensures { MatchResult result (λ g. size_of g ≡ record { columns = columns; rows = rows; tracks = tracks }) (λ u. NoSize (λ z. z ≡ record { columns = columns; rows = rows; tracks = tracks }) u) }
 {
-    match Grid::new(columns, rows, tracks) {
+    let size = Size {
+        columns,
+        rows,
+        tracks,
+    };
+    match Grid::try_from(size) {
         Ok(grid) => Ok(grid),
         Err(refusal) => Err(Unread::Size(refusal)),
     }

@@ -16,10 +16,6 @@ fn has_pin(grid: Grid, pin: Pin) -> bool {
     cell < grid.cells() && track < grid.tracks && grid.at_edge(cell, pin.side)
 }
 
-fn same_pin(a: Pin, b: Pin) -> bool {
-    a.cell == b.cell && a.track == b.track && a.side.number() == b.side.number()
-}
-
 // Whether two seats are of one input or output.
 fn same_word(a: &Seat, b: &Seat) -> bool {
     a.output == b.output && a.name == b.name
@@ -27,7 +23,7 @@ fn same_word(a: &Seat, b: &Seat) -> bool {
 
 // Whether two seats can't both stand: two inputs go in at one place, or a bit is said twice.
 fn clash(a: &Seat, b: &Seat) -> bool {
-    if !a.output && !b.output && same_pin(a.pin, b.pin) {
+    if !a.output && !b.output && a.pin == b.pin {
         return true;
     }
     a.bit == b.bit && same_word(a, b)

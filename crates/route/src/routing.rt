@@ -12,6 +12,7 @@ use fabric::grid::Grid;
 use fabric::parts::{Pin, Side, Source};
 use netlist::parts::Net;
 use place::plain::Placement;
+use std::cmp::Ordering;
 
 impl Plain {
     // The plain layout of so many input bits and cells, or none where there is no room for it.
@@ -32,23 +33,21 @@ impl Plain {
     }
 
     // The side of a cell from which something that begins at another comes; none where they are the same.
+    #[tactic(auto, using(std::proofs::lemmas::Bool::Decides::nat_tests), unfolding(crate::specs::Plain::toward))]
     pub(crate) fn toward(self, cell: u16, begin: u16) -> Option<Side>
         ensures { result ≡ toward (size_of self.grid) cell begin }
     {
-        let row = cell as usize / self.grid.columns;
-        let column = cell as usize % self.grid.columns;
-        let begin_row = begin as usize / self.grid.columns;
-        let begin_column = begin as usize % self.grid.columns;
-        if begin_row < row {
-            Some(Side::Above)
-        } else if row < begin_row {
-            Some(Side::Below)
-        } else if begin_column < column {
-            Some(Side::Left)
-        } else if column < begin_column {
-            Some(Side::Right)
-        } else {
-            None
+        let columns = self.grid.columns;
+        let cell = cell as usize;
+        let begin = begin as usize;
+        match (begin / columns).cmp(&(cell / columns)) {
+            Ordering::Less => Some(Side::Above),
+            Ordering::Greater => Some(Side::Below),
+            Ordering::Equal => match (begin % columns).cmp(&(cell % columns)) {
+                Ordering::Less => Some(Side::Left),
+                Ordering::Greater => Some(Side::Right),
+                Ordering::Equal => None,
+            },
         }
     }
 
@@ -56,62 +55,32 @@ impl Plain {
     pub(crate) fn way(self, cell: u16, begin: u16, track: u16, here: Source) -> Source
         ensures { result ≡ unwrap_or (option_map (λ s. Track s track) (toward (size_of self.grid) cell begin)) here }
     {
-        match self.toward(cell, begin) {
-            Some(side) => Source::Track { side, track },
-            None => here,
-        }
+        self.toward(cell, begin)
+            .map_or(here, |side| Source::Track { side, track })
     }
 
-    // Where a cell takes a net from; nothing, where there is no such net.
+    // Where a cell takes a net from; nothing, where there is no such net. An input bit begins at the left edge of the first cell, and what
+    // a cell of the netlist shows where that stands, from the cell itself.
+    #[tactic(auto, unfolding(crate::specs::Plain::plain_source))]
     pub fn source(self, cell: u16, net: Net) -> Source
         ensures is { Exists self.inputs self.placement.count net → result ≡ plain_source (size_of self.grid) self.inputs cell net }
         ensures none { (Exists self.inputs self.placement.count net → ⊥) → result ≡ Nothing }
     {
         match net {
-            Net::Zero => Source::Nothing,
-            Net::Input(bit) => self.input_source(cell, bit),
-            Net::Cell(from) => self.cell_source(cell, from),
-        }
-    }
-
-    // Where a cell takes an input bit from: at the first cell from the left edge.
-    pub(crate) fn input_source(self, cell: u16, bit: u16) -> Source
-        ensures is { bit < self.inputs → result ≡ plain_source (size_of self.grid) self.inputs cell (Net.Input bit) }
-        ensures none { (bit < self.inputs → ⊥) → result ≡ Nothing }
-    {
-        if bit < self.inputs {
-            self.way(
-                cell,
-                0,
-                bit,
-                Source::Track {
-                    side: Side::Left,
-                    track: bit,
-                },
-            )
-        } else {
-            Source::Nothing
-        }
-    }
-
-    // Where a cell takes from what a cell of the netlist shows: where that stands, from the cell itself.
-    pub(crate) fn cell_source(self, cell: u16, from: u16) -> Source
-        ensures is { from < self.placement.count → result ≡ plain_source (size_of self.grid) self.inputs cell (Net.Cell from) }
-        ensures none { (from < self.placement.count → ⊥) → result ≡ Nothing }
-    {
-        if from < self.placement.count {
-            self.way(
-                cell,
-                self.placement.home(from),
-                self.inputs + from,
-                Source::Own,
-            )
-        } else {
-            Source::Nothing
+            Net::Input(bit) if bit < self.inputs => {
+                let side = Side::Left;
+                self.way(cell, 0, bit, Source::Track { side, track: bit })
+            }
+            Net::Cell(from) if from < self.placement.count => {
+                let begin = self.placement.home(from);
+                self.way(cell, begin, self.inputs + from, Source::Own)
+            }
+            _ => Source::Nothing,
         }
     }
 
     // The net that a track carries, everywhere.
+    #[tactic(auto, using(std::proofs::lemmas::Bool::Decides::nat_tests), unfolding(crate::specs::Plain::plain_net))]
     pub fn carried(self, track: u16) -> Net
         ensures is { result ≡ plain_net self.inputs self.placement.count track }
         ensures exists { Exists self.inputs self.placement.count result }

@@ -22,7 +22,7 @@ pub(crate) struct State<'a> {
 fn pad_place(grid: Grid, pin: Pin) -> usize
     ensures { result ≡ pad_place (size_of grid) pin.cell pin.side pin.track }
 {
-    let edge = pin.cell as usize * 4 + pin.side.number() as usize;
+    let edge = pin.cell as usize * 4 + u16::from(pin.side) as usize;
     edge * grid.tracks + pin.track as usize
 }
 

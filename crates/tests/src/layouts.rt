@@ -37,10 +37,10 @@ fn routes(rt: HostRuntime) -> Result<(), Fail> {
         return Err(Fail::new("no room"));
     };
     // from the left on track 0; from above on track 2; from the cell itself; nothing
-    assert_eq!(rt; p.source(0, Net::Input(0)).number(), 2 + 64 * 2);
-    assert_eq!(rt; p.source(3, Net::Cell(1)).number(), 2 + 64 * 3 + 2);
-    assert_eq!(rt; p.source(2, Net::Cell(2)).number(), 1);
-    assert_eq!(rt; p.source(2, Net::Cell(3)).number(), 0);
+    assert_eq!(rt; u16::from(p.source(0, Net::Input(0))), 2 + 64 * 2);
+    assert_eq!(rt; u16::from(p.source(3, Net::Cell(1))), 2 + 64 * 3 + 2);
+    assert_eq!(rt; u16::from(p.source(2, Net::Cell(2))), 1);
+    assert_eq!(rt; u16::from(p.source(2, Net::Cell(3))), 0);
     assert_eq!(rt; net_number(p.carried(3)), 202);
     Ok(())
 }

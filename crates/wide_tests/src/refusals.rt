@@ -1,6 +1,6 @@
 // The refusals of `put`, by number and place, and that nothing is written.
 use crate::support::{all_sevens, front, placed, sevens, zeros};
-use bitstream_wide::put;
+use bitstream::put_words;
 use std::process::Abort;
 
 // Columns, rows and tracks; a design; the lengths of the room and of the pins; the refusal's number and place.
@@ -14,7 +14,7 @@ struct Case {
 
 fn answers(case: &Case, room: &mut [u16], pins: &mut [u16]) -> bool {
     let [across, down, tracks] = case.size;
-    placed(put(across, down, tracks, case.design, room, pins)) == case.turned
+    placed(put_words(across, down, tracks, case.design, room, pins)) == case.turned
 }
 
 // Whether the case is refused as it says, with nothing written.
@@ -361,7 +361,7 @@ fn refuses_many_nodes(rt: HostRuntime) {
     let mut design: [u16; 4104] = zeros();
     design[3] = 1025;
     assert_eq!(rt;
-        placed(put(2, 1, 4, &design, &mut [0; 1], &mut [])),
+        placed(put_words(2, 1, 4, &design, &mut [0; 1], &mut [])),
         (3, 1024)
     );
 }
@@ -370,7 +370,7 @@ fn refuses_many_nodes(rt: HostRuntime) {
 fn keeps_the_rest(rt: HostRuntime) {
     let mut room: [u16; 76] = sevens();
     let mut pins: [u16; 12] = sevens();
-    let made = put(2, 1, 4, AND, &mut room, &mut pins);
+    let made = put_words(2, 1, 4, AND, &mut room, &mut pins);
     assert_eq!(rt;
         (placed(made), pins[8] != 7, all_sevens(&pins[9..12])),
         ((0, 0), true, true)

@@ -1,6 +1,6 @@
 // Designs put on fabrics that are just large enough, and played.
 use crate::support::{front, is_placed, is_ticked, levels, zeros};
-use bitstream_wide::put;
+use bitstream::put_words;
 use fabric::ticking::tick;
 use std::process::Abort;
 
@@ -158,7 +158,7 @@ fn play_over<const I: usize, const O: usize>(
     held: &mut [u8],
 ) -> usize {
     let mut pins: [u16; 54] = zeros();
-    if !is_placed(put(
+    if !is_placed(put_words(
         size.0 as u64,
         size.1 as u64,
         size.2 as u64,

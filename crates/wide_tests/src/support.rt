@@ -1,5 +1,5 @@
 // What several tests use.
-use bitstream_wide::Made;
+use bitstream::Made;
 use fabric::ticking::Done;
 
 // A blank list.

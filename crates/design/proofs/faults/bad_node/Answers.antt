@@ -1,13 +1,12 @@
-use Rattle.std.proofs.Common.{sym, ◌∙◌, arith}
-use Rattle.design.specs.Numbers.{node_ok, nodes_of}
-use Rattle.design.proofs.First.{first_start, first_more, first_found}
+use borrow.Author.Tests.{tests}
+use Rattle.std.proofs.Common.{◌≡◌, true, false, rules}
+use Rattle.std.proofs.lemmas.Iterator.{first_from_Range}
+use Rattle.design.specs.Numbers.{node_ok}
+use Rattle.design.proofs.First.{first_from_find}
 use Rattle.design.proofs.faults.bad_node.Goals as goal
 
-pub loop-n-init : goal.loop-n-init
-loop-n-init c = first_start (node_ok c.args.numbers.now)
-
-pub loop-n-preserved : goal.loop-n-preserved
-loop-n-preserved c = first_more (node_ok c.args.numbers.now) c.loop-n.n c.loop-n.invariant (sym c.node_ok.ensures ∙ c.if-not-node_ok.false)
-
-pub returns-then-not-node_ok : goal.returns-then-not-node_ok
-returns-then-not-node_ok c = sym (first_found (node_ok c.args.numbers.now) c.loop-n.n (nodes_of c.args.numbers.now) c.loop-n.invariant (sym c.node_ok.ensures ∙ c.if-not-node_ok.true) (omega arith))
+pub returns : goal.returns
+returns c =
+    let test = node_ok c.args.numbers.now in
+    first_from_find test _ _ _ c.nodes.ensures (first_from_Range _ _ _ _ (λ k. test k ≡ false) (λ k. test k ≡ true) c.find.ensures.ran
+    (λ k q h. search (rules, tests)) (λ k q h. search (rules, tests)))

@@ -1,4 +1,6 @@
-use Rattle.std.proofs.Common.{◌-◌, refl, ap, ◌∙◌, inl}
+use Rattle.std.proofs.Common.{◌-◌, false, refl, ap, ◌∙◌, inl}
+use lib.ListN.{length-replicate}
+use Rattle.design.proofs.Filled.{get_or-filled}
 use Rattle.design.specs.Designs.{bit}
 use Rattle.fabric.specs.Fabrics.{final}
 use Rattle.fabric.specs.Numbers.{held_in}
@@ -8,10 +10,9 @@ use Rattle.fabric.proofs.ticking.play.Goals as goal
 
 pub settle-requires : goal.settle-requires
 settle-requires c = record {
-  held = c.requires.held;
-  all = front_length c.blank-first.result c.signals-signals.result _ c.blank-first.ensures.len c.signals-signals.ensures.is c.signals-signals.ensures.small;
-  next = front_length c.blank-second.result c.signals-signals.result _ c.blank-second.ensures.len c.signals-signals.ensures.is c.signals-signals.ensures.small;
-  dark = dark_front (grid_of c.args.wiring) (c.signals-signals.result - 0) c.blank-first.result c.blank-first.ensures.dark;
+  all = front_length _ c.signals-signals.result _ (length-replicate 32000 false) c.signals-signals.ensures.is c.signals-signals.ensures.small;
+  next = front_length _ c.signals-signals.result _ (length-replicate 32000 false) c.signals-signals.ensures.is c.signals-signals.ensures.small;
+  dark = dark_front (grid_of c.args.wiring) (c.signals-signals.result - 0) _ (λ k. get_or-filled 32000 k false);
 }
 
 pub returns-then-settle : goal.returns-then-settle

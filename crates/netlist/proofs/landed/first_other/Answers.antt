@@ -1,24 +1,14 @@
-use Rattle.std.proofs.Common.{◌≡◌, ◌<◌, sym, refl, ◌∙◌, arith}
-use Rattle.design.specs.Numbers.{nodes_of, first_failing}
-use Rattle.design.proofs.First.{first_more, first_found}
-use Rattle.netlist.proofs.LandedTests.{node_test}
+use Rattle.std.proofs.Common.{◌≡◌, ◌<◌, true, false, rules, tests}
+use Rattle.std.proofs.lemmas.Iterator.{first_from_Range}
+use Rattle.design.specs.Numbers.{nodes_of}
+use Rattle.netlist.specs.NotYet.{node_landed}
+use Rattle.netlist.proofs.LandedTests.{first_by}
 use Rattle.netlist.proofs.landed.first_other.Goals as goal
-
-pub loop-n-init : goal.loop-n-init
-unfolding first_failing
-loop-n-init c = refl
-
-pub returns-then-not-landed : goal.returns-then-not-landed
-returns-then-not-landed c =
-    let h : c.loop-n.n < nodes_of c.args.design.numbers.now = omega (arith, c.loop-n-test.true, c.nodes-n-end.ensures.count) in
-    sym (first_found _ _ _ c.loop-n.invariant (sym (node_test _ _ _ (c.node.ensures.is h)) ∙ sym c.if-not-landed.ensures) h)
-
-pub loop-n-preserved : goal.loop-n-preserved
-loop-n-preserved c =
-    let h : c.loop-n.n < nodes_of c.args.design.numbers.now = omega (arith, c.loop-n-test.true, c.nodes-n-end.ensures.count) in
-    first_more _ _ c.loop-n.invariant (sym (node_test _ _ _ (c.node.ensures.is h)) ∙ sym c.if-not-landed.ensures)
 
 pub returns : goal.returns
 returns c =
-    let e : c.loop-n.n ≡ nodes_of c.args.design.numbers.now = omega (arith, c.loop-n-test.false, c.loop-n.auto.n-end, c.nodes-n-end.ensures.count) in
-    sym (rw e at c.loop-n.invariant)
+    let xs = c.args.design.numbers.now in
+    first_by (node_landed xs) (nodes_of xs) c.nodes.result c.find.result c.nodes.ensures.count
+    (first_from_Range _ _ _ _ (λ n. n < nodes_of xs → node_landed xs n ≡ false) (λ n. n < nodes_of xs → node_landed xs n ≡ true) c.find.ensures.ran
+    (λ x q k. search (rules, tests))
+    (λ x q k. search (rules, tests)))

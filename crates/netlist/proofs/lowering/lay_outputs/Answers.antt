@@ -1,37 +1,57 @@
-use Rattle.std.proofs.Common.{◌≡◌, ◌<◌, arith}
+use Rattle.std.proofs.Common.{◌≡◌, ◌<◌, sym, arith}
+use Rattle.design.specs.Designs.{output_width}
 use Rattle.design.specs.Numbers.{outputs_of, design_in}
-use Rattle.netlist.proofs.Roots.{output_within, asks_output, output_room, output_step}
+use Rattle.netlist.proofs.Totals.{total_zero, total_more}
+use Rattle.netlist.proofs.Whole.{output_asks, output_wide, output_row, output_places, output_step}
 use Rattle.netlist.proofs.lowering.lay_outputs.Goals as goal
 
 pub loop-o-init : goal.loop-o-init
-loop-o-init c = c.requires.begun
+loop-o-init c = (c.requires.begun, sym (total_zero _))
 
-pub lay-net-requires : goal.lay-net-requires
-unfolding design_in
-lay-net-requires c =
-    let h : c.loop-o.o < outputs_of c.args.design.numbers.now = omega (arith, c.loop-o-test.true, c.outputs-o-end.ensures) in
-    asks_output _ c.requires.lowerable _ _ _ h c.output.ensures.node c.loop-o.invariant
+pub lay-requires : goal.lay-requires
+lay-requires c =
+    let h : c.loop-o.o < outputs_of c.args.analysis.now.design.numbers.now = omega (arith, c.loop-o-test.true, c.outputs-o-end.ensures) in
+    output_asks _ c.requires.lowerable _ _ _ h c.output-node.ensures.node c.loop-o.invariant.0
 
-pub push-cell-requires : goal.push-cell-requires
-unfolding design_in
-push-cell-requires c =
-    let h : c.loop-o.o < outputs_of c.args.design.numbers.now = omega (arith, c.loop-o-test.true, c.outputs-o-end.ensures) in
-    output_room _ c.requires.lowerable _ _ _ _ _ h c.output.ensures.node c.loop-o.invariant c.lay-net.ensures
+pub overflow_cast-first : goal.overflow_cast-first
+overflow_cast-first c =
+    let h : c.loop-o.o < outputs_of c.args.analysis.now.design.numbers.now = omega (arith, c.loop-o-test.true, c.outputs-o-end.ensures) in
+    let m = output_wide _ c.requires.lowerable _ _ _ h c.output-node.ensures.node c.width-width.ensures in
+    omega (arith, (output_row _ c.requires.lowerable _ _ _ _ _ h c.output-node.ensures.node c.loop-o.invariant.0 c.lay.ensures m).room)
+
+pub unary-requires : goal.unary-requires
+unary-requires c =
+    let h : c.loop-o.o < outputs_of c.args.analysis.now.design.numbers.now = omega (arith, c.loop-o-test.true, c.outputs-o-end.ensures) in
+    let m = output_wide _ c.requires.lowerable _ _ _ h c.output-node.ensures.node c.width-width.ensures in
+    output_row _ c.requires.lowerable _ _ _ _ _ h c.output-node.ensures.node c.loop-o.invariant.0 c.lay.ensures m
 
 pub show-requires : goal.show-requires
-unfolding design_in
 show-requires c =
-    let h : c.loop-o.o < outputs_of c.args.design.numbers.now = omega (arith, c.loop-o-test.true, c.outputs-o-end.ensures) in
-    output_within _ c.requires.lowerable _ h
+    let h : c.loop-o.o < outputs_of c.args.analysis.now.design.numbers.now = omega (arith, c.loop-o-test.true, c.outputs-o-end.ensures) in
+    let m = output_wide _ c.requires.lowerable _ _ _ h c.output-node.ensures.node c.width-width.ensures in
+    record {
+      places = output_places _ c.requires.lowerable _ _ _ _ _ h c.output-node.ensures.node c.loop-o.invariant.0 c.lay.ensures m _ c.loop-o.invariant.1;
+      cells = (output_row _ c.requires.lowerable _ _ _ _ _ h c.output-node.ensures.node c.loop-o.invariant.0 c.lay.ensures m).room;
+    }
+
+pub overflow_add-start : goal.overflow_add-start
+overflow_add-start c =
+    let h : c.loop-o.o < outputs_of c.args.analysis.now.design.numbers.now = omega (arith, c.loop-o-test.true, c.outputs-o-end.ensures) in
+    let m = output_wide _ c.requires.lowerable _ _ _ h c.output-node.ensures.node c.width-width.ensures in
+    omega (arith, output_places _ c.requires.lowerable _ _ _ _ _ h c.output-node.ensures.node c.loop-o.invariant.0 c.lay.ensures m _ c.loop-o.invariant.1)
 
 pub loop-o-preserved : goal.loop-o-preserved
 loop-o-preserved c =
-    let h : c.loop-o.o < outputs_of c.args.design.numbers.now = omega (arith, c.loop-o-test.true, c.outputs-o-end.ensures) in
-    output_step _ c.requires.lowerable _ _ _ _ _ _ _ _ _ h c.output.ensures.node c.loop-o.invariant c.lay-net.ensures
-    c.gate.ensures c.push-cell.ensures.number c.push-cell.ensures.room c.push-cell.ensures.after c.show.ensures.room c.show.ensures.after
+    let h : c.loop-o.o < outputs_of c.args.analysis.now.design.numbers.now = omega (arith, c.loop-o-test.true, c.outputs-o-end.ensures) in
+    let m = output_wide _ c.requires.lowerable _ _ _ h c.output-node.ensures.node c.width-width.ensures in
+    let s = c.show.ensures in (
+      output_step _ c.requires.lowerable _ _ _ _ _ h c.output-node.ensures.node c.loop-o.invariant.0 c.lay.ensures m _ _ _ _ c.loop-o.invariant.1 c.unary.ensures
+          s.cells s.count s.buses s.old s.new,
+      omega (arith, c.loop-o.invariant.1, m, total_more c.loop-o.o (output_width (design_in c.args.analysis.now.design.numbers.now))),
+    )
 
 pub returns : goal.returns
 unfolding design_in
 returns c =
-    let e : c.loop-o.o ≡ outputs_of c.args.design.numbers.now = omega (arith, c.loop-o-test.false, c.loop-o.auto.o-end, c.outputs-o-end.ensures) in
-    rw e at c.loop-o.invariant
+    let e : c.loop-o.o ≡ outputs_of c.args.analysis.now.design.numbers.now = omega (arith, c.loop-o-test.false, c.loop-o.auto.o-end, c.outputs-o-end.ensures) in
+    rw e at c.loop-o.invariant.0

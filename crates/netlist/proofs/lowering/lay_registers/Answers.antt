@@ -1,33 +1,42 @@
-use Rattle.std.proofs.Common.{◌≡◌, ◌<◌, ap, ◌∙◌, arith}
-use Rattle.design.specs.Designs.{Word}
+use Rattle.std.proofs.Common.{◌≡◌, ◌<◌, sym, arith}
 use Rattle.design.specs.Numbers.{registers_of, design_in}
-use Rattle.netlist.specs.Building.{register_cell}
-use Rattle.netlist.proofs.Gates.{low_bit}
-use Rattle.netlist.proofs.Roots.{registers_within, asks_register, register_step}
+use Rattle.netlist.proofs.Totals.{total_zero, total_more}
+use Rattle.netlist.proofs.Whole.{register_asks, register_place, register_small, register_step}
 use Rattle.netlist.proofs.lowering.lay_registers.Goals as goal
 
 pub loop-r-init : goal.loop-r-init
-loop-r-init c = c.requires.begun
+loop-r-init c = (c.requires.begun, sym (total_zero _))
 
-pub lay-net-requires : goal.lay-net-requires
-unfolding design_in
-lay-net-requires c =
-    let h : c.loop-r.r < registers_of c.args.design.numbers.now = omega (arith, c.loop-r-test.true, c.registers-r-end.ensures) in
-    asks_register _ c.requires.lowerable _ _ _ h c.register-register.ensures.next c.loop-r.invariant
+pub lay-requires : goal.lay-requires
+lay-requires c =
+    let h : c.loop-r.r < registers_of c.args.analysis.now.design.numbers.now = omega (arith, c.loop-r-test.true, c.registers-r-end.ensures) in
+    register_asks _ c.requires.lowerable _ _ _ h c.register-register.ensures.next c.loop-r.invariant.0
 
-pub hold-requires : goal.hold-requires
-unfolding design_in
-hold-requires c = omega (arith, c.loop-r-test.true, c.registers-r-end.ensures, registers_within _ c.requires.lowerable)
+pub bus-next-requires : goal.bus-next-requires
+bus-next-requires c =
+    let h : c.loop-r.r < registers_of c.args.analysis.now.design.numbers.now = omega (arith, c.loop-r-test.true, c.registers-r-end.ensures) in
+    register_small _ c.requires.lowerable _ _ h c.register-register.ensures.next
+
+pub write-requires : goal.write-requires
+write-requires c =
+    let h : c.loop-r.r < registers_of c.args.analysis.now.design.numbers.now = omega (arith, c.loop-r-test.true, c.registers-r-end.ensures) in
+    register_place _ c.requires.lowerable _ _ _ h c.loop-r.invariant.1 c.register-register.ensures.width
+
+pub overflow_add-start : goal.overflow_add-start
+overflow_add-start c =
+    let h : c.loop-r.r < registers_of c.args.analysis.now.design.numbers.now = omega (arith, c.loop-r-test.true, c.registers-r-end.ensures) in
+    omega (arith, register_place _ c.requires.lowerable _ _ _ h c.loop-r.invariant.1 c.register-register.ensures.width)
 
 pub loop-r-preserved : goal.loop-r-preserved
 loop-r-preserved c =
-    let h : c.loop-r.r < registers_of c.args.design.numbers.now = omega (arith, c.loop-r-test.true, c.registers-r-end.ensures) in
-    register_step _ c.requires.lowerable _ _ _ _ _ _ _ h c.register-register.ensures.next c.loop-r.invariant c.lay-net.ensures c.hold.ensures.room
-    (c.register.ensures ∙ ap (register_cell c.lay-net.result) (low_bit c.register-register.result.initial ∙ ap (λ (w : Word). w 0) c.register-register.ensures.initial))
-    c.hold.ensures.after
+    let h : c.loop-r.r < registers_of c.args.analysis.now.design.numbers.now = omega (arith, c.loop-r-test.true, c.registers-r-end.ensures) in (
+      register_step _ c.requires.lowerable _ _ _ _ _ _ _ _ _ h c.register-register.ensures.next c.loop-r.invariant.0 c.lay.ensures c.loop-r.invariant.1 c.register-register.ensures.width
+          c.bus-next.ensures c.register-register.ensures.initial c.write.ensures,
+      omega (arith, c.loop-r.invariant.1, c.register-register.ensures.width, total_more c.loop-r.r (design_in c.args.analysis.now.design.numbers.now).register_width),
+    )
 
 pub returns : goal.returns
 unfolding design_in
 returns c =
-    let e : c.loop-r.r ≡ registers_of c.args.design.numbers.now = omega (arith, c.loop-r-test.false, c.loop-r.auto.r-end, c.registers-r-end.ensures) in
-    rw e at c.loop-r.invariant
+    let e : c.loop-r.r ≡ registers_of c.args.analysis.now.design.numbers.now = omega (arith, c.loop-r-test.false, c.loop-r.auto.r-end, c.registers-r-end.ensures) in
+    rw e at c.loop-r.invariant.0

@@ -1,5 +1,8 @@
-use Rattle.netlist.specs.Shapes.{RegistersAt}
+use Rattle.std.proofs.Common.{◌≡◌}
+use Rattle.design.specs.Designs.{total}
+use Rattle.design.specs.Numbers.{design_in}
+use Rattle.netlist.specs.Lowerings.{RegistersIn}
 use Rattle.netlist.proofs.lowering.lay_registers.Given as goal
 
 abbrev pub invariant-loop-r : goal.invariant-loop-r
-invariant-loop-r l = RegistersAt l.design.numbers.now l.work l.r
+invariant-loop-r l = RegistersIn l.analysis.design.numbers.now l.work l.r × (l.start ≡ total l.r (design_in l.analysis.design.numbers.now).register_width)

@@ -4,4 +4,4 @@ use Rattle.streams.proofs.state.pad_place.Goals as goal
 
 pub returns : goal.returns
 unfolding pad_place
-returns c = ap (λ (s : ℕ). (c.args.pin.cell * 4 + s) * c.args.grid.tracks + c.args.pin.track) c.number.ensures.is
+returns c = ap (λ (s : ℕ). (c.args.pin.cell * 4 + s) * c.args.grid.tracks + c.args.pin.track) c.from.ensures.0

@@ -1,5 +1,5 @@
 use Rattle.std.proofs.Common.{arith}
-use Rattle.design.specs.Numbers.{nodes_of, expr_at}
+use Rattle.design.specs.Numbers.{nodes_of, node_expr}
 use Rattle.design.specs.Encodings.{list_of, design_of}
 use Rattle.design.proofs.Reading.{readable, not_refused}
 use Rattle.design.proofs.Passing.{summary_read}
@@ -10,5 +10,4 @@ returns c = λ l.
     let self = c.args.self.now in
     let xs = list_of self.design in
     let h = readable xs (not_refused xs self.design.readable) in
-    summary_read (design_of self.design) (expr_at xs (nodes_of xs)) (nodes_of xs) self.known c.args.n c.at.result
-    self.forms self.widths self.costs (omega (arith, h.few, self.long)) c.at.ensures l
+    summary_read (design_of self.design) (node_expr xs) (nodes_of xs) self.known c.args.n c.at.result self.summarized (omega (arith, h.few, self.long)) c.at.ensures l

@@ -6,5 +6,5 @@ use Rattle.player.proofs.player.Player.new.Goals as goal
 
 pub returns : goal.returns
 returns c =
-    let none = c.in_default.ensures.0 in
+    let none = c.in_ok-check.ensures.0 in
     (none, ap design_in c.new.ensures, c.in_ok-words.ensures (sound_from_none (design_of c.args.design) none))

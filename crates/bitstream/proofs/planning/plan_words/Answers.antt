@@ -1,0 +1,15 @@
+use Rattle.std.proofs.Common.{◌∙◌}
+use Rattle.std.proofs.lemmas.Result.{err_from_is_err_and, MatchResult-weaker}
+use Rattle.bitstream.proofs.Refusing.{words_first, words_next, planned}
+use Rattle.bitstream.proofs.planning.plan_words.Goals as goal
+
+pub returns-in_err-accept : goal.returns-in_err-accept
+returns-in_err-accept c =
+    let p = err_from_is_err_and c.from_residual.result c.from_residual.ensures.1 in
+    rw (p.1, p.2) (words_first _ _ _ _ _ c.in_err-accept.ensures)
+
+pub returns : goal.returns
+returns c =
+    let a = c.in_ok-accept.ensures in
+    let w = words_next _ _ _ _ _ a.1 a.0 in
+    MatchResult-weaker c.lay_out.result c.lay_out.ensures (λ p h. (w ∙ h.0, planned _ _ _ _ _ a.1 p h.1 h.2)) (λ f h. w ∙ h)

@@ -1,3 +1,0 @@
-pub mod Plans
-pub mod Puts
-pub mod Theorem

@@ -1,0 +1,131 @@
+// The rows of cells that an operation on nodes is laid out as.
+ghost use Rattle.std.specs.Prelude.{◌≡◌, ◌+◌, ◌<◌, ◌≤◌};
+ghost use Rattle.netlist.specs.Building.{gate_row, chain_row};
+ghost use Rattle.netlist.specs.Works.{nets_at, zeros, RowAsks, RowLaid, Compared, Summed};
+
+use crate::bus::Bus;
+use crate::row::Row;
+use crate::work::Work;
+
+// Tables: bit k is what a cell looks up where its first input counts 1, its second 2 and its third 4.
+pub(crate) const PASS: u16 = 2;
+
+pub(crate) const NOT: u16 = 1;
+
+pub(crate) const AND: u16 = 8;
+
+pub(crate) const OR: u16 = 14;
+
+pub(crate) const XOR: u16 = 6;
+// the first where the third is 1, else the second
+const MUX: u16 = 172;
+// the sum of three bits, and its carry
+const SUM: u16 = 150;
+
+const CARRY: u16 = 232;
+// whether the first is less than the second, or they are equal and the third, of the bits below, is 1
+pub(crate) const LESS: u16 = 212;
+// whether the first two are equal; and the third, of the bits below, is 1
+pub(crate) const SAME: u16 = 9;
+
+pub(crate) const EQUAL: u16 = 144;
+
+impl Work {
+    // One gate a bit, of one node.
+    pub(crate) fn unary(&mut self, table: u16, a: u16, width: u16) -> Bus
+        requires { RowAsks self.old a a width }
+        ensures { RowLaid self.old self.new width (gate_row table (nets_at self.old a) zeros zeros) result }
+    {
+        let none = Bus::zero();
+        self.push(
+            Row::Gates {
+                table,
+                a: self.bus(a),
+                b: none,
+                c: none,
+            },
+            width,
+        )
+    }
+
+    // One gate a bit, of two nodes.
+    pub(crate) fn binary(&mut self, table: u16, a: u16, b: u16, width: u16) -> Bus
+        requires { RowAsks self.old a b width }
+        ensures { RowLaid self.old self.new width (gate_row table (nets_at self.old a) (nets_at self.old b) zeros) result }
+    {
+        let none = Bus::zero();
+        self.push(
+            Row::Gates {
+                table,
+                a: self.bus(a),
+                b: self.bus(b),
+                c: none,
+            },
+            width,
+        )
+    }
+
+    // The bits of a node where the low bit of another is 1, else those of a third.
+    pub(crate) fn choose(&mut self, choice: u16, one: u16, zero: u16, width: u16) -> Bus
+        requires there { choice < 1024 }
+        requires row { RowAsks self.old one zero width }
+        ensures { RowLaid self.old self.new width (gate_row 172 (nets_at self.old one) (nets_at self.old zero) (λ k. nets_at self.old choice 0)) result }
+    {
+        let all = Bus::all(self.bus(choice).net(0));
+        self.push(
+            Row::Gates {
+                table: MUX,
+                a: self.bus(one),
+                b: self.bus(zero),
+                c: all,
+            },
+            width,
+        )
+    }
+
+    // One cell a bit, of two nodes and of the cell of the bit below.
+    fn chain(&mut self, first: u16, table: u16, a: u16, b: u16, width: u16) -> Bus
+        requires { RowAsks self.old a b width }
+        ensures { RowLaid self.old self.new width (chain_row first table (nets_at self.old a) (nets_at self.old b) self.old.count) result }
+    {
+        self.push(
+            Row::Chain {
+                first,
+                table,
+                a: self.bus(a),
+                b: self.bus(b),
+            },
+            width,
+        )
+    }
+
+    // A chain from the low bit up, whose last cell has the result: so the higher bit decides.
+    pub(crate) fn compare(&mut self, first: u16, table: u16, a: u16, b: u16, width: u16) -> Bus
+        requires row { RowAsks self.old a b width }
+        requires some { 1 ≤ width }
+        ensures { Compared self.old self.new width (chain_row first table (nets_at self.old a) (nets_at self.old b) self.old.count) result }
+    {
+        let states = self.chain(first, table, a, b, width);
+        states.slice(width - 1)
+    }
+
+    // A chain of carries from the low bit up, and then a sum for each bit, of the two bits and the carry into them.
+    pub(crate) fn add(&mut self, a: u16, b: u16, width: u16) -> Bus
+        requires row { RowAsks self.old a b width }
+        requires room { self.old.count + width + width ≤ 1024 }
+        ensures { Summed self.old self.new a b width result }
+    {
+        let carries = self.chain(CARRY, CARRY, a, b, width);
+        let none = Bus::zero();
+        let into = carries.above(none, 1);
+        self.push(
+            Row::Gates {
+                table: SUM,
+                a: self.bus(a),
+                b: self.bus(b),
+                c: into,
+            },
+            width,
+        )
+    }
+}

@@ -1,5 +1,0 @@
-use Rattle.netlist_wide.proofs.Working.{summed}
-use Rattle.netlist_wide.proofs.work.Work.add.Goals as goal
-
-pub returns : goal.returns
-returns c = summed _ _ _ _ _ _ _ _ _ _ _ _ c.requires.row.narrow c.chain-carries.ensures c.bus-none.ensures c.bus-into.ensures c.bus.ensures c.bus-2.ensures c.push.ensures

@@ -1,7 +1,0 @@
-use Rattle.std.proofs.Common.{refl}
-use Rattle.netlist_wide.specs.Rows.{row_cell}
-use Rattle.netlist_wide.proofs.Working.{pushed}
-use Rattle.netlist_wide.proofs.work.Work.push.Goals as goal
-
-pub returns : goal.returns
-returns c = pushed _ _ _ _ _ (row_cell c.args.row) _ refl c.requires c.write.ensures refl c.bus.ensures

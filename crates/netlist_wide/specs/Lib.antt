@@ -1,4 +1,0 @@
-pub mod Building
-pub mod Rows
-pub mod Works
-pub mod Lowerings

@@ -1,7 +1,0 @@
-// The law of lowering, under a contract.
-ghost use Rattle.netlist_wide.specs.Building.{DesignsLower};
-
-// Every sound design, of whatever size, has a netlist that computes what it computes, with no more cells than the plain layout counts.
-pub fn designs_lower()
-    ensures { DesignsLower }
-{}
