@@ -1,3 +1,2 @@
-pub mod Keywords
 pub mod Lines
 pub mod Texts

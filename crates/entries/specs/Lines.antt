@@ -6,6 +6,8 @@ use Rattle.fabric.specs.declared.parts.Source.{Source}
 use Rattle.fabric.specs.declared.parts.Source.TheVariants.{Nothing, Own, Track}
 use Rattle.fabric.specs.Sides.{side_word}
 use Rattle.words.specs.Numbers.{Capped}
+use Rattle.entries.specs.declared.entry.Direction.{Direction}
+use Rattle.entries.specs.declared.entry.Direction.TheVariants.{In, Out}
 use Rattle.entries.specs.declared.entry.Seat.{Seat}
 use Rattle.entries.specs.declared.entry.Entry.{Entry}
 use Rattle.entries.specs.declared.entry.Entry.TheVariants.{Fabric, Table, Holds, Drive, Port}
@@ -47,6 +49,11 @@ pub record PinAt (words : List (Bor (List ℕ))) (at : ℕ) (pin : Pin) : Type 0
   pub side : word_at words (at + 1) ≡ side_word pin.side
   pub track : Small (word_at words (at + 2)) (Some pin.track)
 
+-- how a direction is written
+abbrev pub direction_word : Direction → List ℕ
+direction_word In = codes "in"
+direction_word Out = codes "out"
+
 -- in NAME BIT at N SIDE T, or the same with out
 pub record SeatLine (words : List (Bor (List ℕ))) (line : ℕ) (seat : Seat) : Type 0 where
   pub long : length words ≡ 7
@@ -57,18 +64,10 @@ pub record SeatLine (words : List (Bor (List ℕ))) (line : ℕ) (seat : Seat) :
   pub pin : PinAt words 4 seat.pin
   pub line_said : seat.line ≡ line
 
--- a line that begins with cell, behind the cell's number
-abbrev pub CellSays : List (Bor (List ℕ)) → ℕ → Entry → Type 0
-CellSays words cell (Fabric rows columns tracks) = ⊥
-CellSays words cell (Table c table sources) = (c ≡ cell) × (word_at words 2 ≡ codes "table") × TableLine words table
-CellSays words cell (Holds c initial) = (c ≡ cell) × (word_at words 2 ≡ codes "holds") × HoldsLine words initial
-CellSays words cell (Drive c side track source) = (c ≡ cell) × (word_at words 2 ≡ side_word side) × DriveLine words track source
-CellSays words cell (Port seat) = ⊥
-
 -- the line of that number says the entry
 abbrev pub LineSays : List (Bor (List ℕ)) → ℕ → Entry → Type 0
-LineSays words line (Fabric rows columns tracks) = FabricLine words rows columns tracks
+LineSays words line (Fabric size) = FabricLine words size.rows size.columns size.tracks
 LineSays words line (Table cell table sources) = (word_at words 0 ≡ codes "cell") × Small (word_at words 1) (Some cell) × (word_at words 2 ≡ codes "table") × TableLine words table
 LineSays words line (Holds cell initial) = (word_at words 0 ≡ codes "cell") × Small (word_at words 1) (Some cell) × (word_at words 2 ≡ codes "holds") × HoldsLine words initial
 LineSays words line (Drive cell side track source) = (word_at words 0 ≡ codes "cell") × Small (word_at words 1) (Some cell) × (word_at words 2 ≡ side_word side) × DriveLine words track source
-LineSays words line (Port seat) = (word_at words 0 ≡ cond seat.output (codes "out") (codes "in")) × SeatLine words line seat
+LineSays words line (Port seat) = (word_at words 0 ≡ direction_word seat.direction) × SeatLine words line seat

@@ -1,10 +1,18 @@
 // What a line of a listing may say.
 use fabric::parts::{Pin, Side, Source};
+use fabric::size::Size;
+
+// Whether bits go into the fabric or come out of it.
+#[derive(Clone, Copy, PartialEq, Eq)]
+pub enum Direction {
+    In,
+    Out,
+}
 
 // A bit of an input or an output, where it goes in or comes out, and the line that says so.
 #[derive(Clone, Copy)]
 pub struct Seat<'a> {
-    pub output: bool,
+    pub direction: Direction,
     pub name: &'a str,
     pub bit: u16,
     pub pin: Pin,
@@ -14,11 +22,7 @@ pub struct Seat<'a> {
 #[derive(Clone, Copy)]
 pub enum Entry<'a> {
     // the size of the fabric
-    Fabric {
-        rows: u64,
-        columns: u64,
-        tracks: u64,
-    },
+    Fabric(Size),
     // a cell's table, bit k of the number for the inputs that say k, and the sources of its inputs
     Table {
         cell: u16,

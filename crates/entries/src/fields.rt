@@ -1,49 +1,26 @@
-// The words of a line of a listing, by their places.
-ghost use Rattle.std.specs.Prelude.{◌≡◌, ℕ, ◌+◌, ◌^◌, ◌<◌, IfSome, Some, MatchOption, ◌≢◌};
-ghost use Rattle.fabric.specs.declared.parts.Source.TheVariants.{Track};
+// The fields of a line of a listing.
+ghost use Rattle.std.specs.Prelude.{◌≡◌, ◌<◌, IfSome};
 ghost use Rattle.entries.specs.Lines.{SourceAt};
-ghost use Rattle.fabric.specs.declared.parts.Side.{Side};
-ghost use Rattle.words.specs.Numbers.{Capped};
-ghost use Rattle.fabric.specs.Sides.{side_word};
-ghost use Rattle.entries.specs.Keywords.{Means};
-ghost use Rattle.entries.specs.Texts.{Small, hex_value, HexNumber, word_at};
+ghost use Rattle.entries.specs.Texts.{Small, hex_value, HexNumber};
 
-use crate::keywords::{Keyword, keyword_of};
-use fabric::parts::{Side, Source};
-use words::numbers::{decimal, decimal_or_most};
+use fabric::parts::Source;
+use words::numbers::decimal;
 
 // The longest name.
 const NAME_LEN: usize = 16;
 
-// A word of a line; past the end an empty one.
-pub(crate) fn word<'a>(words: &[&'a str], at: usize) -> &'a str
-    ensures { result.now ≡ word_at words.now at }
+// A decimal number that fits 16 bits.
+pub(crate) fn small(word: &str) -> Option<u16>
+    ensures { Small word.now result }
 {
-    if at < words.len() { words[at] } else { "" }
+    u16::try_from(decimal(word)?).ok()
 }
 
-// The keyword at that place.
-pub(crate) fn keyword_at(words: &[&str], at: usize) -> Keyword
-    ensures { Means (word_at words.now at) result }
+// One below 64.
+pub(crate) fn below_64(word: &str) -> Option<u16>
+    ensures { IfSome result (λ n. Small word.now result × (n < 64)) }
 {
-    keyword_of(word(words, at))
-}
-
-// The decimal number at that place, if it fits 16 bits.
-pub(crate) fn small_at(words: &[&str], at: usize) -> Option<u16>
-    ensures { Small (word_at words.now at) result }
-{
-    let Some(n) = decimal(word(words, at)) else {
-        return None;
-    };
-    if n < 65536 { Some(n as u16) } else { None }
-}
-
-// The decimal number at that place; one that doesn't fit 64 bits counts as the largest that does.
-pub(crate) fn capped_at(words: &[&str], at: usize) -> Option<u64>
-    ensures { Capped (word_at words.now at) result }
-{
-    decimal_or_most(word(words, at))
+    small(word).filter(|n| *n < 64)
 }
 
 // The value of a lower-case hexadecimal digit.
@@ -52,8 +29,8 @@ fn hex_digit(b: u8) -> Option<u16>
     ensures below { IfSome result (λ d. d < 16) }
 {
     match b {
-        b'0'..=b'9' => Some((b - b'0') as u16),
-        b'a'..=b'f' => Some((b - b'a') as u16 + 10),
+        b'0'..=b'9' => Some(u16::from(b - b'0')),
+        b'a'..=b'f' => Some(u16::from(b - b'a') + 10),
         _ => None,
     }
 }
@@ -62,79 +39,35 @@ fn hex_digit(b: u8) -> Option<u16>
 pub(crate) fn hex(word: &str) -> Option<u16>
     ensures { IfSome result (λ n. HexNumber word.now n) }
 {
-    let bytes = word.as_bytes();
-    if bytes.len() != 4 {
-        return None;
-    }
-    let Some(a) = hex_digit(bytes[0]) else {
+    let [a, b, c, d] = word.as_bytes() else {
         return None;
     };
-    let Some(b) = hex_digit(bytes[1]) else {
-        return None;
-    };
-    let Some(c) = hex_digit(bytes[2]) else {
-        return None;
-    };
-    let Some(d) = hex_digit(bytes[3]) else {
-        return None;
-    };
-    Some(a * 4096 + b * 256 + c * 16 + d)
+    let first = hex_digit(*a)?;
+    let second = hex_digit(*b)?;
+    let third = hex_digit(*c)?;
+    let fourth = hex_digit(*d)?;
+    Some(first * 4096 + second * 256 + third * 16 + fourth)
 }
 
-// The side at that place.
-pub(crate) fn side_at(words: &[&str], at: usize) -> Option<Side>
-    ensures { MatchOption result ((s : Side) → word_at words.now at ≢ side_word s) (λ s. word_at words.now at ≡ side_word s) }
+// The source that these words begin with, and the words behind it.
+pub(crate) fn first_source<'w, 'a>(words: &'w [&'a str]) -> Option<(Source, &'w [&'a str])>
+    ensures { IfSome result (λ found. SourceAt words.now 0 found.0) }
 {
-    match keyword_at(words, at) {
-        Keyword::Side(side) => Some(side),
+    match words {
+        ["nothing", rest @ ..] => Some((Source::Nothing, rest)),
+        ["own", rest @ ..] => Some((Source::Own, rest)),
+        [side, track, rest @ ..] => {
+            let side = side.parse().ok()?;
+            let track = below_64(track)?;
+            Some((Source::Track { side, track }, rest))
+        }
         _ => None,
-    }
-}
-
-// The track of that side at that place, which is below 64, whether the fabric has it or not.
-fn track_from(words: &[&str], at: usize, side: Side) -> Option<Source>
-    ensures { IfSome result (λ s. ((t : ℕ) × (s ≡ Track side t) × Small (word_at words.now at) (Some t) × (t < 64))) }
-{
-    let Some(track) = small_at(words, at) else {
-        return None;
-    };
-    if track < 64 {
-        Some(Source::Track { side, track })
-    } else {
-        None
-    }
-}
-
-// The source at that place.
-pub(crate) fn source_at(words: &[&str], at: usize) -> Option<Source>
-    ensures { IfSome result (λ s. at + 1 < 2 ^ 64 → SourceAt words.now at s) }
-{
-    match keyword_at(words, at) {
-        Keyword::Nothing => Some(Source::Nothing),
-        Keyword::Own => Some(Source::Own),
-        Keyword::Side(side) => track_from(words, at.saturating_add(1), side),
-        _ => None,
-    }
-}
-
-// How many words say a source.
-pub(crate) fn words_of(source: Source) -> usize {
-    match source {
-        Source::Track { .. } => 2,
-        _ => 1,
     }
 }
 
 // Letters and digits, a letter first, up to sixteen.
 pub(crate) fn is_name(word: &str) -> bool {
-    let bytes = word.as_bytes();
-    if bytes.len() == 0 || bytes.len() > NAME_LEN || !bytes[0].is_ascii_alphabetic() {
-        return false;
-    }
-    for b in bytes {
-        if !b.is_ascii_alphanumeric() {
-            return false;
-        }
-    }
-    true
+    word.len() <= NAME_LEN
+        && word.starts_with(|c: char| c.is_ascii_alphabetic())
+        && word.bytes().all(|b| b.is_ascii_alphanumeric())
 }

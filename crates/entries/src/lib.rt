@@ -3,5 +3,4 @@
 
 pub mod entry;
 pub mod fields;
-pub mod keywords;
 pub mod lines;

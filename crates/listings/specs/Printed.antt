@@ -1,6 +1,6 @@
 -- The text of a listing.
 use Rattle.std.specs.Prelude.{ℕ, List, ◌++◌, codes, decimal}
-use Rattle.fabric.specs.Fabrics.{Size}
+use Rattle.fabric.specs.declared.size.Size.{Size}
 
 -- the first line: fabric ROWS COLUMNS TRACKS
 abbrev pub size_text : Size → List ℕ

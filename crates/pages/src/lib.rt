@@ -1,22 +1,41 @@
 // Texts that grow piece by piece.
 #![tactic(auto)]
 
-ghost use Rattle.std.specs.Prelude.{◌≡◌, ◌<◌, true, false, [], ◌∷◌, string_bytes, decimal, MatchResult};
+ghost use Rattle.std.specs.Prelude.{◌≡◌, ◌<◌, [], ◌∷◌, string_bytes, decimal, IfSome, IsOkAnd, IsErrOf};
 ghost use Rattle.pages.specs.Growth.{Adds};
 
 pub mod page;
 
 use page::Page;
 use std::alloc::{AllocError, Global};
+use std::fmt::Display;
 
 impl Page {
     // An empty page.
     pub fn new(heap: Global) -> Page
-        ensures { (string_bytes result.text ≡ []) × (result.lost ≡ false) }
+        ensures { IsOkAnd result.text (λ text. string_bytes text ≡ []) }
     {
         Page {
-            text: String::new(heap),
-            lost: false,
+            text: Ok(String::new(heap)),
+        }
+    }
+
+    // Its text is lost.
+    pub fn lose(&mut self, lost: AllocError)
+        ensures { IsErrOf self.new.text lost }
+    {
+        *self = Page { text: Err(lost) };
+    }
+
+    // Adds what `write!` prints.
+    pub fn write_fmt<D: Display + Drop>(&mut self, value: D)
+        ensures { IfSome (D.output value) (λ words. Adds self.old self.new words) }
+    {
+        let Ok(text) = &mut self.text else {
+            return;
+        };
+        if let Err(lost) = text.write_fmt(value) {
+            self.lose(lost);
         }
     }
 
@@ -24,36 +43,28 @@ impl Page {
     pub fn add(&mut self, words: &str)
         ensures { Adds self.old self.new words.now }
     {
-        if self.text.push_str(words).is_err() {
-            self.lost = true;
-        }
+        write!(self, "{words}");
     }
 
     // Adds a letter, which is a byte below 128.
     pub fn letter(&mut self, byte: u8)
         ensures { byte < 128 → Adds self.old self.new (byte ∷ []) }
     {
-        if self.text.push(byte as char).is_err() {
-            self.lost = true;
-        }
+        let letter = byte as char;
+        write!(self, "{letter}");
     }
 
     // Adds a number, in decimal.
     pub fn number(&mut self, n: u64)
         ensures { Adds self.old self.new (decimal n) }
     {
-        if write!(self.text, "{n}").is_err() {
-            self.lost = true;
-        }
+        write!(self, "{n}");
     }
 
     // The text, unless something of it is lost.
     pub fn done(self) -> Result<String, AllocError>
-        ensures { MatchResult result (λ s. (self.lost ≡ false) × (string_bytes s ≡ string_bytes self.text)) (λ _. self.lost ≡ true) }
+        ensures { result ≡ self.text }
     {
-        if self.lost {
-            return Err(AllocError);
-        }
-        Ok(self.text)
+        self.text
     }
 }

@@ -1,8 +1,8 @@
 // A page that is being written.
+use std::alloc::AllocError;
 
-// Its text so far. Where there was no memory left for a piece, `lost` says so, and stays.
+// Its text so far, or that there was no memory left for a piece of it.
 #[derive(Drop)]
 pub struct Page {
-    pub text: String,
-    pub lost: bool,
+    pub text: Result<String, AllocError>,
 }

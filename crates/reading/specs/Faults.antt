@@ -1,7 +1,7 @@
 -- The first line of a listing, and why one isn't read.
 use Rattle.std.specs.Prelude.{◌≡◌, ℕ, true, List, Some}
 use Rattle.std.specs.Borrow.{Bor}
-use Rattle.fabric.specs.Fabrics.{Size as FabricSize}
+use Rattle.fabric.specs.declared.size.Size.{Size as FabricSize}
 use Rattle.fabric.specs.Numbers.{size_refusal}
 use Rattle.words.specs.Cuts.{Lines, Words}
 use Rattle.entries.specs.Texts.{word_at}

@@ -1,7 +1,7 @@
 // The reading of listings.
 #![tactic(auto)]
 
-pub mod filling;
+mod draft;
 pub mod lines;
-pub mod seats;
+mod ports;
 pub mod unread;

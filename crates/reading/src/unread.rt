@@ -1,5 +1,9 @@
 // Why a listing isn't read.
+ghost use Rattle.std.specs.Prelude.{◌≡◌, true};
+ghost use Rattle.reading.specs.declared.unread.Unread.TheVariants.{Memory, Size, Line};
+
 use design::refusal::Refusal;
+use std::alloc::{AllocError, AllocFailed};
 
 #[derive(Clone, Copy)]
 pub enum Unread {
@@ -9,4 +13,37 @@ pub enum Unread {
     Size(Refusal),
     // a line, counted from 0, that can't be read; it is formed as lines of a listing are and can't stand there, or else it isn't
     Line { line: usize, formed: bool },
+}
+
+impl Unread {
+    // A line that is formed as lines of a listing are and can't stand there.
+    pub(crate) fn misplaced(line: usize) -> Unread
+        ensures { result ≡ Line line true }
+    {
+        Unread::Line { line, formed: true }
+    }
+}
+
+impl From<AllocError> for Unread {
+    ghost from_gives = { λ _ r. r ≡ Memory };
+
+    fn from(_e: AllocError) -> Unread {
+        Unread::Memory
+    }
+}
+
+impl<T: Drop> From<AllocFailed<T>> for Unread {
+    ghost from_gives = { λ _ r. r ≡ Memory };
+
+    fn from(_e: AllocFailed<T>) -> Unread {
+        Unread::Memory
+    }
+}
+
+impl From<Refusal> for Unread {
+    ghost from_gives = { λ e r. r ≡ Size e };
+
+    fn from(refusal: Refusal) -> Unread {
+        Unread::Size(refusal)
+    }
 }

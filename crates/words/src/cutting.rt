@@ -1,6 +1,6 @@
 // Texts cut into lines and words.
-ghost use Rattle.std.specs.Prelude.{◌≡◌, IfOk, filter};
-ghost use Rattle.words.specs.Cuts.{Lines, Pieces, Words, line_count, some_byte};
+ghost use Rattle.std.specs.Prelude.{◌≡◌, IfOk};
+ghost use Rattle.words.specs.Cuts.{Lines, Pieces, Words, line_count};
 
 use std::alloc::{AllocError, Global};
 
@@ -15,11 +15,9 @@ fn line_pieces(heap: Global, text: &str) -> Result<Vec<&str>, AllocError>
 fn line_count(pieces: &[&str]) -> usize
     ensures { result ≡ line_count pieces.now }
 {
-    let count = pieces.len();
-    if count > 0 && pieces[count - 1].is_empty() {
-        count - 1
-    } else {
-        count
+    match pieces {
+        [before @ .., last] if last.is_empty() => before.len(),
+        _ => pieces.len(),
     }
 }
 
@@ -27,40 +25,17 @@ fn line_count(pieces: &[&str]) -> usize
 pub fn lines(heap: Global, text: &str) -> Result<Vec<&str>, AllocError>
     ensures { IfOk result (λ v. Lines text.now v.items) }
 {
-    let Ok(mut lines) = line_pieces(heap, text) else {
-        return Err(AllocError);
-    };
+    let mut lines = line_pieces(heap, text)?;
     let count = line_count(lines.as_slice());
     lines.truncate(count);
     Ok(lines)
-}
-
-// What stands between the spaces of a line.
-fn pieces(heap: Global, line: &str) -> Result<Vec<&str>, AllocError>
-    ensures { IfOk result (λ v. Pieces 32 line.now v.items) }
-{
-    line.split(' ').collect(heap)
-}
-
-// The pieces that aren't empty.
-fn kept<'a>(heap: Global, pieces: &[&'a str]) -> Result<Vec<&'a str>, AllocError>
-    ensures { IfOk result (λ v. v.items ≡ filter some_byte pieces.now) }
-{
-    let mut words = Vec::new(heap);
-    for piece in pieces {
-        if !piece.is_empty() && words.push(*piece).is_err() {
-            return Err(AllocError);
-        }
-    }
-    Ok(words)
 }
 
 // The words of a line, which spaces separate.
 pub fn words(heap: Global, line: &str) -> Result<Vec<&str>, AllocError>
     ensures { IfOk result (λ v. Words line.now v.items) }
 {
-    let Ok(pieces) = pieces(heap, line) else {
-        return Err(AllocError);
-    };
-    kept(heap, pieces.as_slice())
+    line.split(' ')
+        .filter(|piece| !piece.is_empty())
+        .collect(heap)
 }

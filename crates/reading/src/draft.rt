@@ -1,0 +1,169 @@
+// A listing that is being read: each thing is said at most once.
+ghost use Rattle.std.specs.Prelude.{◌≡◌, MatchResult, IfOk, IfErr, vec_len};
+ghost use Rattle.fabric.specs.Code.{size_of};
+ghost use Rattle.fabric.specs.Numbers.{room_length};
+ghost use Rattle.reading.specs.Faults.{AtLine, SomeLine};
+
+use crate::ports::DraftPorts;
+use crate::unread::Unread;
+use entries::entry::{Direction, Entry, Seat};
+use entries::lines::read_entry;
+use fabric::grid::Grid;
+use fabric::parts::{Pin, Side, Source};
+use listings::parts::Listing;
+use std::alloc::{AllocError, Global};
+use std::array;
+use words::cutting::words;
+
+#[derive(Drop)]
+pub(crate) struct Draft<'a> {
+    heap: Global,
+    grid: Grid,
+    // the numbers that configure the fabric, where they are said
+    room: Vec<Option<u16>>,
+    inputs: DraftPorts<'a>,
+    outputs: DraftPorts<'a>,
+    ghost full: { vec_len room ≡ room_length (size_of grid) },
+}
+
+// Fills these slots; None if one of them is filled already, or there are none.
+fn fill(room: &mut [Option<u16>], start: usize, said: &[u16]) -> Option<()> {
+    let slots = room.get_mut(start..start.saturating_add(said.len()))?;
+    if slots.iter().any(|slot| slot.is_some()) {
+        return None;
+    }
+    for (slot, n) in slots.iter_mut().zip(said) {
+        *slot = Some(*n);
+    }
+    Some(())
+}
+
+impl<'a> Draft<'a> {
+    // Nothing is said yet.
+    pub(crate) fn new(heap: Global, grid: Grid) -> Result<Draft<'a>, AllocError>
+        ensures { IfOk result (λ draft. draft.grid ≡ grid) }
+    {
+        Ok(Draft {
+            heap,
+            grid,
+            room: Vec::from_elem(heap, None, grid.room_len())?,
+            inputs: DraftPorts::new(heap),
+            outputs: DraftPorts::new(heap),
+        })
+    }
+
+    // Says numbers of a cell, from number k on; None if they are said already, or there are none.
+    fn say(&mut self, cell: u16, k: usize, said: &[u16]) -> Option<()>
+        ensures { self.new.grid ≡ self.old.grid }
+    {
+        let start = usize::from(cell)
+            .saturating_mul(self.grid.per_cell())
+            .saturating_add(k);
+        fill(self.room.as_mut_slice(), start, said)
+    }
+
+    // Says a cell's table, bit k of the number for the inputs that say k, and the sources of its inputs.
+    fn set_table(&mut self, cell: u16, table: u16, sources: [Source; 4]) -> Option<()>
+        ensures { self.new.grid ≡ self.old.grid }
+    {
+        let bits: [u16; 16] = array::from_fn(|k| table >> k & 1);
+        self.say(cell, 0, &bits)?;
+        self.say(cell, 16, &sources.map(u16::from))
+    }
+
+    // Says that a cell holds, and what at first.
+    fn set_holds(&mut self, cell: u16, initial: bool) -> Option<()>
+        ensures { self.new.grid ≡ self.old.grid }
+    {
+        self.say(cell, 20, &[1, u16::from(initial)])
+    }
+
+    // Says the source of a track.
+    fn set_drive(&mut self, cell: u16, side: Side, track: u16, source: Source) -> Option<()>
+        ensures { self.new.grid ≡ self.old.grid }
+    {
+        let tracks = self.grid.tracks;
+        let track = usize::from(track);
+        if track >= tracks {
+            return None;
+        }
+        let k = 22 + usize::from(u16::from(side)) * tracks + track;
+        self.say(cell, k, &[u16::from(source)])
+    }
+
+    // Whether the pin is at an edge of the fabric.
+    fn has_pin(&self, pin: Pin) -> bool {
+        let cell = usize::from(pin.cell);
+        let track = usize::from(pin.track);
+        cell < self.grid.cells() && track < self.grid.tracks && self.grid.at_edge(cell, pin.side)
+    }
+
+    // Says where a bit is; no two inputs go in at one pin.
+    fn set_port(&mut self, seat: Seat<'a>) -> Result<(), Unread>
+        ensures same_grid { self.new.grid ≡ self.old.grid }
+        ensures at { IfErr result (λ u. AtLine seat.entry.line u) }
+    {
+        let taken = seat.direction == Direction::In && self.inputs.has(seat.pin);
+        if taken || !self.has_pin(seat.pin) {
+            return Err(Unread::misplaced(seat.line));
+        }
+        let before = match seat.direction {
+            Direction::In => self.inputs.note(self.heap, seat)?,
+            Direction::Out => self.outputs.note(self.heap, seat)?,
+        };
+        match before {
+            Some(_) => Err(Unread::misplaced(seat.line)),
+            None => Ok(()),
+        }
+    }
+
+    // Takes in a line after the first.
+    pub(crate) fn read_line(&mut self, text: &'a str, line: usize) -> Result<(), Unread>
+        ensures same_grid { self.new.grid ≡ self.old.grid }
+        ensures at { IfErr result (λ u. AtLine line u) }
+    {
+        let words = words(self.heap, text)?;
+        let said = match read_entry(words.as_slice(), line) {
+            Some(
+                Entry::Table {
+                    cell,
+                    table,
+                    sources,
+                },
+            ) => self.set_table(cell, table, sources),
+            Some(Entry::Holds { cell, initial }) => self.set_holds(cell, initial),
+            Some(
+                Entry::Drive {
+                    cell,
+                    side,
+                    track,
+                    source,
+                },
+            ) => self.set_drive(cell, side, track, source),
+            Some(Entry::Port(seat)) => return self.set_port(seat),
+            Some(Entry::Fabric(_)) | None => {
+                return Err(Unread::Line {
+                    line,
+                    formed: false,
+                });
+            }
+        };
+        said.ok_or(Unread::misplaced(line))
+    }
+
+    // The listing; what isn't said is 0.
+    pub(crate) fn finished(self) -> Result<Listing, Unread>
+        ensures { MatchResult result (λ l. l.grid ≡ self.entry.grid) (λ u. SomeLine u) }
+    {
+        Ok(Listing {
+            grid: self.grid,
+            room: self
+                .room
+                .iter()
+                .map(|said| said.unwrap_or(0))
+                .collect(self.heap)?,
+            inputs: self.inputs.finished(self.heap)?,
+            outputs: self.outputs.finished(self.heap)?,
+        })
+    }
+}
