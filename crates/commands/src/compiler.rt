@@ -3,6 +3,7 @@ ghost use Rattle.std.specs.Prelude.{◌≡◌, ◌<◌, false, length, is_ok};
 
 use crate::compiling::compile;
 use crate::files::{Failed, fail, load, print, say};
+use fabric::size::Size;
 use words::numbers::decimal_or_most;
 
 const HELP: &str = "compile: put a design on a fabric
@@ -27,25 +28,19 @@ const NO_TEXTS: &str =
 const USAGE: &str =
     "write: compile --numbers FILE fabric ROWS COLUMNS TRACKS (compile --help says more)";
 
-// Rows, columns and tracks.
-fn size_of(rows: &str, columns: &str, tracks: &str) -> Option<(u64, u64, u64)> {
-    let rows = decimal_or_most(rows)?;
-    let columns = decimal_or_most(columns)?;
-    let tracks = decimal_or_most(tracks)?;
-    Some((rows, columns, tracks))
+// The size that three words say.
+fn size_of(rows: &str, columns: &str, tracks: &str) -> Option<Size> {
+    Some(Size {
+        columns: decimal_or_most(columns)?,
+        rows: decimal_or_most(rows)?,
+        tracks: decimal_or_most(tracks)?,
+    })
 }
 
 // compile --numbers FILE fabric ROWS COLUMNS TRACKS
-fn compile_file(
-    rt: &HostRuntime,
-    file: &str,
-    (rows, columns, tracks): (u64, u64, u64),
-) -> Result<(), Failed> {
+fn compile_file(rt: &HostRuntime, file: &str, size: Size) -> Result<(), Failed> {
     let design = load(rt, file)?;
-    say(
-        rt,
-        compile(rt.alloc(), rows, columns, tracks, design.as_slice()),
-    )
+    say(rt, compile(rt.alloc(), size, design.as_slice()))
 }
 
 // What `compile` does with its words, its own name first; with none but that it fails. Where it fails, it has said why on

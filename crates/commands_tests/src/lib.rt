@@ -7,6 +7,7 @@ mod tests {
     use commands::said::Said;
     use commands::simulating::simulate;
     use design::encoded::Encoded;
+    use fabric::size::Size;
     use putting::widths::output_widths;
     use reading::lines::read;
     use reading::unread::Unread;
@@ -174,7 +175,12 @@ cell 0 right 2 from own ";
     }
 
     fn compiled(heap: Global, design: &str, rows: u64) -> Result<String, AllocError> {
-        marked(heap, compile(heap, rows, 2, 4, design.as_bytes()))
+        let size = Size {
+            columns: 2,
+            rows,
+            tracks: 4,
+        };
+        marked(heap, compile(heap, size, design.as_bytes()))
     }
 
     #[test]

@@ -2,6 +2,7 @@
 use crate::texts::size_hint;
 use crate::trouble::Asked;
 use design::refusal::Refusal;
+use fabric::size::Size;
 use std::fmt;
 
 // A number of a design; 0 past the end.
@@ -9,17 +10,17 @@ fn number_at(numbers: &[u64], place: usize) -> u64 {
     numbers.get(place).copied().unwrap_or(0)
 }
 
+// A size that there isn't.
 fn write_size<W: fmt::Write>(
     f: &mut fmt::Formatter<W>,
     refusal: Refusal,
-    asked: Asked,
+    size: Size,
 ) -> fmt::Result {
-    let Asked {
-        rows,
+    let Size {
         columns,
+        rows,
         tracks,
-        ..
-    } = asked;
+    } = size;
     let hint = size_hint(refusal);
     write!(f, "\"fabric {rows} {columns} {tracks}\" {hint}")
 }
@@ -110,11 +111,11 @@ fn write_soundness<W: fmt::Write>(
 fn write_layout<W: fmt::Write>(
     f: &mut fmt::Formatter<W>,
     refusal: Refusal,
-    asked: Asked,
+    size: Size,
 ) -> fmt::Result {
     let needed = refusal.place();
-    let tracks = asked.tracks;
-    let cells = asked.rows.saturating_mul(asked.columns);
+    let tracks = size.tracks;
+    let cells = size.rows.saturating_mul(size.columns);
     match refusal {
         Refusal::Cells { .. } => write!(
             f,
@@ -151,11 +152,11 @@ pub(crate) fn write_design<W: fmt::Write>(
     asked: Asked,
 ) -> fmt::Result {
     match refusal.number() {
-        1 => write_size(f, refusal, asked),
+        1 => write_size(f, refusal, asked.size),
         2 => write_length(f, asked.numbers, refusal.place()),
         3 => write_content(f, refusal, asked.numbers),
         5 => write_soundness(f, refusal, asked.numbers),
-        7 => write_layout(f, refusal, asked),
+        7 => write_layout(f, refusal, asked.size),
         _ => write_other(f, refusal),
     }
 }

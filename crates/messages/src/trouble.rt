@@ -4,15 +4,14 @@ ghost use Rattle.std.specs.Prelude.{◌≡◌};
 use crate::designs::write_design;
 use crate::texts::{write_bytes, write_listing, write_numbers, write_size, write_stream};
 use design::refusal::Refusal;
+use fabric::size::Size;
 use listings::parts::Port;
 use std::fmt;
 
 // A fabric, and the numbers of the design that is to be put on it; none where the fabric is played.
 #[derive(Clone, Copy)]
 pub struct Asked<'a> {
-    pub rows: u64,
-    pub columns: u64,
-    pub tracks: u64,
+    pub size: Size,
     pub numbers: &'a [u64],
 }
 

@@ -1,29 +1,14 @@
 // The ports of a design's words, from the list of pins that putting it on a fabric writes.
-ghost use Rattle.std.specs.Prelude.{◌≡◌};
-ghost use Rattle.putting.specs.Sides.{side_at};
-
 use fabric::parts::{Pin, Side};
 use listings::parts::Port;
 use std::alloc::{AllocError, Global};
 
-// The side of that number; above 3 the last.
-fn side_at(n: u16) -> Side
-    ensures { result ≡ side_at n }
-{
-    match n {
-        0 => Side::Right,
-        1 => Side::Below,
-        2 => Side::Left,
-        _ => Side::Above,
-    }
-}
-
-// The pin of three numbers.
+// The pin of three numbers; above 3 the side is the last.
 fn pin_of(numbers: &[u16; 3]) -> Pin {
     let [cell, side, track] = *numbers;
     Pin {
         cell,
-        side: side_at(side),
+        side: Side::at(side as usize),
         track,
     }
 }

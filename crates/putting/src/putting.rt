@@ -12,6 +12,7 @@ use bitstream::{Made, put};
 use design::encoded::Encoded;
 use design::refusal::Refusal;
 use fabric::grid::Grid;
+use fabric::size::Size;
 use listings::parts::Listing;
 use std::alloc::Global;
 
@@ -96,18 +97,10 @@ fn put_design(heap: Global, grid: Grid, design: &[u16]) -> Result<Listing, Unput
 }
 
 // The listing of a design on a fabric. The fabric is looked at first, then how many numbers there are, then each number.
-pub fn compiled(
-    heap: Global,
-    rows: u64,
-    columns: u64,
-    tracks: u64,
-    numbers: &[u64],
-) -> Result<Listing, Unput>
-    ensures { MatchOption (asked_refusal (record { columns = columns; rows = rows; tracks = tracks }) numbers.now)
-        (IfOk result (λ l. size_of l.grid ≡ record { columns = columns; rows = rows; tracks = tracks }))
-        (λ f. result ≡ Err (Turned f)) }
+pub fn compiled(heap: Global, size: Size, numbers: &[u64]) -> Result<Listing, Unput>
+    ensures { MatchOption (asked_refusal size numbers.now) (IfOk result (λ l. size_of l.grid ≡ size)) (λ f. result ≡ Err (Turned f)) }
 {
-    let grid = Grid::new(columns, rows, tracks)?;
+    let grid = Grid::try_from(size)?;
     let expected = expected_len(numbers);
     if numbers.len() as u64 != expected {
         return Err(Unput::from(Refusal::DesignLength { expected }));

@@ -19,6 +19,7 @@ pub(crate) struct State<'a> {
 }
 
 // Where a pin stands among all pads.
+#[tactic(auto, unfolding(fabric::specs::Numbers::pad_place))]
 fn pad_place(grid: Grid, pin: Pin) -> usize
     ensures { result ≡ pad_place (size_of grid) pin.cell pin.side pin.track }
 {
@@ -27,6 +28,7 @@ fn pad_place(grid: Grid, pin: Pin) -> usize
 }
 
 // What each cell holds at first.
+#[tactic(auto, unfolding(fabric::specs::Numbers::per_cell))]
 fn initial(heap: Global, listing: &Listing) -> Result<Vec<u8>, AllocError> {
     let size = listing.grid.per_cell();
     listing
@@ -40,7 +42,7 @@ fn initial(heap: Global, listing: &Listing) -> Result<Vec<u8>, AllocError> {
 // Puts a number on the pins of an input, the low bit first.
 fn put_input(pads: &mut [u8], grid: Grid, port: &Port, n: u64) {
     let mut rest = n;
-    for pin in port.pins.iter() {
+    for pin in &port.pins {
         if let Some(pad) = pads.get_mut(pad_place(grid, *pin)) {
             *pad = (rest & 1) as u8;
         }

@@ -16,7 +16,7 @@ fn fits(n: u64, width: usize) -> bool
     if width >= 64 {
         return true;
     }
-    n >> width == 0
+    n < 1 << width
 }
 
 // The number that a word writes, if it has no more bits than that.
