@@ -22,7 +22,7 @@ fn printed(heap: Global, listing: &Listing) -> Result<Said, AllocError>
     Ok(Said::Answer(listing.print(heap)?))
 }
 
-// Puts a design on a fabric.
+// Puts a design on a fabric. A match, and no `?`: want of memory goes on, and a refusal is said.
 fn compile_asked(heap: Global, asked: Asked) -> Result<Said, AllocError>
     ensures { IfOk result (λ s. SaysCompiled asked.entry.size s) }
 {

@@ -1,4 +1,4 @@
-// Why a stream isn't played.
+// Why a stream isn't played. An enum for each crate whose callers match on it, as small as its reasons.
 ghost use Rattle.std.specs.Prelude.{◌≡◌};
 ghost use Rattle.streams.specs.declared.unplayed.Unplayed.TheVariants.{Memory, Turned};
 
