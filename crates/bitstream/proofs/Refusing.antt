@@ -1,6 +1,7 @@
 -- Which refusal is answered.
-use Rattle.std.proofs.Common.{◌≡◌, ℕ, ◌+◌, ◌*◌, ◌<◌, ◌≤◌, min, Bool, true, false, eqb, ltb, ◌⊎◌, List, length, Ok, Err, Some, None, Option, Result, sym, refl, ap, ◌∙◌, subst, inr, arith, MatchOption}
+use Rattle.std.proofs.Common.{◌≡◌, ℕ, ◌+◌, ◌*◌, ◌<◌, ◌≤◌, min, Bool, true, false, eqb, ltb, ◌⊎◌, List, length, Ok, Err, Some, None, Option, Result, sym, refl, ap, ◌∙◌, subst, inr, arith, MatchOption, MatchResult}
 use Rattle.std.specs.Option.{option_or}
+use Rattle.std.specs.Result.{IsErrAnd}
 use Rattle.std.specs.Bool.{then_some}
 use Rattle.std.proofs.lemmas.Nat.{mul-le}
 use Rattle.std.proofs.lemmas.Bool.{lt-ltb, le-ltb, ltb-false, ne_eqb, eq-eqb}
@@ -25,6 +26,11 @@ use Rattle.bitstream.specs.declared.plans.Request.{Request}
 use Rattle.bitstream.specs.declared.plans.Plan.{Plan}
 use Rattle.bitstream.specs.Puts.{pin_count, put_refusal, plain_refusal, not_yet, Refuses, Places, PutSays, PutWordsSays}
 use Rattle.bitstream.specs.Plans.{words_answer, put_answer, Accepts, Plans, Planned, PlanSays, CarriesOut}
+
+-- a refusal that `?` hands on
+pub hands_on : {T : Type 0} {f : Refusal} (r : Result T Refusal) (A : T → Type 0) (B : Refusal → Type 0) → IsErrAnd r (λ g. g ≡ f) → B f → MatchResult r A B
+hands_on (Ok x) A B e h = absurd e
+hands_on (Err g) A B e h = rw e h
 
 pub few_cells : (g : Grid) → cell_count (size_of g) ≤ 1024
 few_cells g = mul-le g.columns g.rows 32 32 g.few_columns g.few_rows

@@ -17,7 +17,7 @@ use design::refusal::Refusal;
 use fabric::size::Size;
 
 // What `put` answers. It stays an enum of its own, and no `Result`, since C reads it.
-#[derive(Clone, Copy)]
+#[derive(Clone, Copy, PartialEq, Eq, Debug)]
 pub enum Made {
     // the room holds the fabric's bits, and the pins are written
     Placed,

@@ -110,12 +110,7 @@ pub(crate) fn plan_words(
 }
 
 // What `put` is to write, or the first refusal that applies.
-pub(crate) fn plan(
-    size: Size,
-    numbers: &[u16],
-    room: &[u16],
-    pins: &[u16],
-) -> Result<Plan, Refusal>
+pub(crate) fn plan(size: Size, numbers: &[u16], room: &[u16], pins: &[u16]) -> Result<Plan, Refusal>
     ensures { PlanSays (put_answer size numbers.now room.now pins.now) size numbers.now room.now pins.now result }
 {
     let request = accept(size, numbers, room, pins)?;

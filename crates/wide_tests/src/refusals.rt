@@ -1,4 +1,4 @@
-// The refusals of `put`, by number and place, and that nothing is written.
+// The refusals of `put_words`, by number and place, and that nothing is written.
 use crate::support::{all_sevens, front, placed, sevens, zeros};
 use bitstream::put_words;
 use std::process::Abort;

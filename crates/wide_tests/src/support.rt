@@ -34,7 +34,7 @@ pub(crate) fn ticked(done: Done) -> (u64, u64) {
     }
 }
 
-// What `put` answers: 0 for placed, else the refusal's number, and its place.
+// What `put_words` answers: 0 for placed, else the refusal's number, and its place.
 pub(crate) fn placed(made: Made) -> (u64, u64) {
     match made {
         Made::Placed => (0, 0),

@@ -3,15 +3,6 @@ use Rattle.design.proofs.Sound.{sound_from_none}
 use Rattle.bitstream.proofs.Putting.{puts}
 use Rattle.bitstream.proofs.carry_out.Goals as goal
 
-pub write_room-requires : goal.write_room-requires
-write_room-requires c = let f = rw c.in-Ok.is at c.requires in f.room_fits
-
-pub write_pins-requires : goal.write_pins-requires
-write_pins-requires c = let f = rw c.in-Ok.is at c.requires in f.pins_fit
-
-pub returns-in-Err : goal.returns-in-Err
-returns-in-Err c = rw c.in-Err.is (refl, refl, refl)
-
 pub returns-in-Ok : goal.returns-in-Ok
 returns-in-Ok c = rw c.in-Ok.is (λ z xs h.
     (refl, sound_from_none _ h.sound, puts _ c.in-Ok.plan h.plans _ c.write_room.ensures _ _ c.write_pins.ensures _ _ h.grid c.write_room.auto.room c.write_pins.auto.pins))

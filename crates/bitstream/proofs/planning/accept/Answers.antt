@@ -1,21 +1,16 @@
 use Rattle.std.proofs.Common.{◌≡◌, ℕ, List, None, sym, ap, ◌∙◌, subst, arith}
-use Rattle.std.proofs.lemmas.Result.{err_from_is_err_and}
 use Rattle.design.specs.declared.counts.Counts.{Counts}
 use Rattle.design.specs.Numbers.{soundness_refusal, design_in}
 use Rattle.design.specs.Encodings.{Counted}
 use Rattle.fabric.specs.Numbers.{room_length}
-use Rattle.bitstream.proofs.Refusing.{refuses_size, refuses_reading, refuses_room, refuses_unsound, refuses_pins, refuses_nothing, pins_are}
+use Rattle.bitstream.proofs.Refusing.{hands_on, refuses_size, refuses_reading, refuses_room, refuses_unsound, refuses_pins, refuses_nothing, pins_are}
 use Rattle.bitstream.proofs.planning.accept.Goals as goal
 
 pub returns-in_err-grid : goal.returns-in_err-grid
-returns-in_err-grid c =
-    let p = err_from_is_err_and c.from_residual.result c.from_residual.ensures.1 in
-    rw (p.1, p.2) (refuses_size _ _ _ _ _ c.in_err-grid.ensures)
+returns-in_err-grid c = hands_on _ _ _ c.from_residual.ensures.1 (refuses_size _ _ _ _ _ c.in_err-grid.ensures)
 
 pub returns-in_err-design : goal.returns-in_err-design
-returns-in_err-design c =
-    let p = err_from_is_err_and c.from_residual-in_err-design.result c.from_residual-in_err-design.ensures.1 in
-    rw (p.1, p.2) (refuses_reading _ _ _ _ c.in_ok-grid.ensures.0 _ c.in_err-design.ensures)
+returns-in_err-design c = hands_on _ _ _ c.from_residual-in_err-design.ensures.1 (refuses_reading _ _ _ _ c.in_ok-grid.ensures.0 _ c.in_err-design.ensures)
 
 pub returns-then-room-room_len : goal.returns-then-room-room_len
 returns-then-room-room_len c =
@@ -24,17 +19,10 @@ returns-then-room-room_len c =
 
 pub returns-in_err-counts : goal.returns-in_err-counts
 returns-in_err-counts c =
-    let p = err_from_is_err_and c.from_residual-in_err-counts.result c.from_residual-in_err-counts.ensures.1 in
     let g = c.in_ok-grid.ensures in
     let d = c.in_ok-design.ensures in
     let r = c.if-room-room_len.false ∙ (c.room_len.ensures ∙ ap room_length g.1) in
-    rw (p.1, p.2) (refuses_unsound _ _ _ _ g.0 d.0 r _ (sym (ap (λ xs. soundness_refusal (design_in xs)) d.1) ∙ c.in_err-counts.ensures))
-
-pub overflow_add-needed : goal.overflow_add-needed
-overflow_add-needed c = record { fits = omega (arith, c.in_ok-counts.counts.few_inputs, c.in_ok-counts.counts.few_outputs) }
-
-pub overflow_mul-needed : goal.overflow_mul-needed
-overflow_mul-needed c = record { fits = omega (arith, c.in_ok-counts.counts.few_inputs, c.in_ok-counts.counts.few_outputs) }
+    hands_on _ _ _ c.from_residual-in_err-counts.ensures.1 (refuses_unsound _ _ _ _ g.0 d.0 r _ (sym (ap (λ xs. soundness_refusal (design_in xs)) d.1) ∙ c.in_err-counts.ensures))
 
 -- what `check` says, of the list that was lent
 abbrev Checked : Counts → List ℕ → Type 0

@@ -1,12 +1,10 @@
 use Rattle.std.proofs.Common.{◌∙◌}
-use Rattle.std.proofs.lemmas.Result.{err_from_is_err_and, MatchResult-weaker}
-use Rattle.bitstream.proofs.Refusing.{words_first, words_next, planned}
+use Rattle.std.proofs.lemmas.Result.{MatchResult-weaker}
+use Rattle.bitstream.proofs.Refusing.{hands_on, words_first, words_next, planned}
 use Rattle.bitstream.proofs.planning.plan_words.Goals as goal
 
 pub returns-in_err-accept : goal.returns-in_err-accept
-returns-in_err-accept c =
-    let p = err_from_is_err_and c.from_residual.result c.from_residual.ensures.1 in
-    rw (p.1, p.2) (words_first _ _ _ _ _ c.in_err-accept.ensures)
+returns-in_err-accept c = hands_on _ _ _ c.from_residual.ensures.1 (words_first _ _ _ _ _ c.in_err-accept.ensures)
 
 pub returns : goal.returns
 returns c =

@@ -1,16 +1,10 @@
 use Rattle.std.proofs.Common.{◌≤◌, ◌∙◌, arith}
-use Rattle.std.proofs.lemmas.Result.{err_from_is_err_and}
 use Rattle.fabric.specs.Code.{size_of}
 use Rattle.design.specs.Designs.{output_bits}
 use Rattle.design.specs.Encodings.{design_of, list_of}
 use Rattle.bitstream.proofs.Refusing.{few_cells, has_room, outputs_below, inputs_below, plain_room, lowers_surely, pins_are}
 use Rattle.bitstream.proofs.Putting.{nets_exist, outputs_exist}
 use Rattle.bitstream.proofs.plans.Request.lay_out.Goals as goal
-
-pub returns-in_err-plain_room : goal.returns-in_err-plain_room
-returns-in_err-plain_room c =
-    let p = err_from_is_err_and c.from_residual.result c.from_residual.ensures.1 in
-    rw (p.1, p.2) c.in_err-plain_room.ensures
 
 pub returns-in_err-netlist : goal.returns-in_err-netlist
 returns-in_err-netlist c =
@@ -27,9 +21,6 @@ unreachable-requires c =
     let r = c.args.self in
     let few = c.in_ok-netlist.ensures.1.few in
     c.in_default.ensures (plain_room (size_of r.grid) (design_of r.design) _ _ c.in_ok-plain_room.ensures r.counted.inputs (omega (arith, few, c.count.ensures)))
-
-pub overflow_add-result : goal.overflow_add-result
-overflow_add-result c = record { fits = omega (arith, c.args.self.counts.few_inputs, c.args.self.counts.few_outputs) }
 
 pub invariant_of-result : goal.invariant_of-result
 invariant_of-result c =
