@@ -10,8 +10,6 @@ pub fn message(heap: Global, trouble: Trouble) -> Result<String, AllocError>
     ensures { IfOk result (λ s. ((words : List ℕ) × (string_bytes s ≡ refused_text (refusal_in trouble.entry) ++ words))) }
 {
     let refusal = trouble.refusal();
-    let number = refusal.number();
-    let place = refusal.place();
     let words = format!(in heap; "{trouble}")?;
-    format!(in heap; "refused {number} at {place}: {words}")
+    format!(in heap; "{refusal}: {words}")
 }
