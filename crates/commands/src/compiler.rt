@@ -2,7 +2,8 @@
 ghost use Rattle.std.specs.Prelude.{◌≡◌, ◌<◌, false, length, is_ok};
 
 use crate::compiling::compile;
-use crate::files::{Failed, argument, fail, is, load, print, say};
+use crate::files::{Failed, fail, load, print, say};
+use fabric::size::Size;
 use words::numbers::decimal_or_most;
 
 const HELP: &str = "compile: put a design on a fabric
@@ -27,44 +28,36 @@ const NO_TEXTS: &str =
 const USAGE: &str =
     "write: compile --numbers FILE fabric ROWS COLUMNS TRACKS (compile --help says more)";
 
-// The number that a word is.
-fn size(words: &[String], i: usize) -> Option<u64> {
-    decimal_or_most(argument(words, i))
+// The size that three words say.
+fn size_of(rows: &str, columns: &str, tracks: &str) -> Option<Size> {
+    Some(Size {
+        columns: decimal_or_most(columns)?,
+        rows: decimal_or_most(rows)?,
+        tracks: decimal_or_most(tracks)?,
+    })
 }
 
 // compile --numbers FILE fabric ROWS COLUMNS TRACKS
-fn compile_numbers(rt: &HostRuntime, words: &[String]) -> Result<(), Failed> {
-    let Some(rows) = size(words, 4) else {
-        return fail(rt, USAGE);
-    };
-    let Some(columns) = size(words, 5) else {
-        return fail(rt, USAGE);
-    };
-    let Some(tracks) = size(words, 6) else {
-        return fail(rt, USAGE);
-    };
-    let design = load(rt, argument(words, 2))?;
-    say(
-        rt,
-        compile(rt.alloc(), rows, columns, tracks, design.as_slice()),
-    )
+fn compile_file(rt: &HostRuntime, file: &str, size: Size) -> Result<(), Failed> {
+    let design = load(rt, file)?;
+    say(rt, compile(rt.alloc(), size, design.as_slice()))
 }
 
-// What `compile` does with its words, its own name first.
-pub(crate) fn run(rt: &HostRuntime, words: &[String]) -> Result<(), Failed>
+// What `compile` does with its words, its own name first; with none but that it fails. Where it fails, it has said why on
+// standard error.
+pub fn run(rt: &HostRuntime, words: &[String]) -> Result<(), Failed>
     ensures { length words.now < 2 → is_ok result ≡ false }
 {
-    if words.len() < 2 {
-        return fail(rt, USAGE);
+    match words {
+        [_, help, ..] if help.as_str() == "--help" => print(rt, HELP),
+        [_, numbers, file, fabric, rows, columns, tracks]
+            if numbers.as_str() == "--numbers" && fabric.as_str() == "fabric" => {
+            match size_of(rows.as_str(), columns.as_str(), tracks.as_str()) {
+                Some(size) => compile_file(rt, file.as_str(), size),
+                None => fail(rt, USAGE),
+            }
+        }
+        [_, _, fabric, _, _, _] if fabric.as_str() == "fabric" => fail(rt, NO_TEXTS),
+        _ => fail(rt, USAGE),
     }
-    if is(words, 1, "--help") {
-        return print(rt, HELP);
-    }
-    if words.len() == 7 && is(words, 1, "--numbers") && is(words, 3, "fabric") {
-        return compile_numbers(rt, words);
-    }
-    if words.len() == 6 && is(words, 2, "fabric") {
-        return fail(rt, NO_TEXTS);
-    }
-    fail(rt, USAGE)
 }

@@ -7,6 +7,7 @@ ghost use Rattle.commands.specs.Sayings.{SaysCompiled, SaysRefusal};
 use crate::said::Said;
 use crate::texts::{line_of, refused, text_of};
 use design::refusal::Refusal;
+use fabric::size::Size;
 use listings::parts::Listing;
 use messages::trouble::{Asked, Trouble};
 use putting::numbers::numbers;
@@ -18,17 +19,14 @@ use std::alloc::{AllocError, Global};
 fn printed(heap: Global, listing: &Listing) -> Result<Said, AllocError>
     ensures { IfOk result (λ s. size_refusal (size_of listing.now.grid) ≡ None → SaysCompiled (size_of listing.now.grid) s) }
 {
-    match listing.print(heap) {
-        Ok(text) => Ok(Said::Answer(text)),
-        Err(_) => Err(AllocError),
-    }
+    Ok(Said::Answer(listing.print(heap)?))
 }
 
-// Puts a design on a fabric.
+// Puts a design on a fabric. A match, and no `?`: want of memory goes on, and a refusal is said.
 fn compile_asked(heap: Global, asked: Asked) -> Result<Said, AllocError>
-    ensures { IfOk result (λ s. SaysCompiled (record { columns = asked.entry.columns; rows = asked.entry.rows; tracks = asked.entry.tracks }) s) }
+    ensures { IfOk result (λ s. SaysCompiled asked.entry.size s) }
 {
-    match compiled(heap, asked.rows, asked.columns, asked.tracks, asked.numbers) {
+    match compiled(heap, asked.size, asked.numbers) {
         Ok(listing) => printed(heap, &listing),
         Err(Unput::Memory) => Err(AllocError),
         Err(Unput::Turned(refusal)) => refused(heap, Trouble::Design { refusal, asked }),
@@ -44,42 +42,25 @@ fn unreadable(heap: Global, text: &str, refusal: Refusal) -> Result<Said, AllocE
     refused(heap, Trouble::Numbers { line, text })
 }
 
-fn compile_text(
-    heap: Global,
-    rows: u64,
-    columns: u64,
-    tracks: u64,
-    text: &str,
-) -> Result<Said, AllocError>
-    ensures { IfOk result (λ s. SaysCompiled (record { columns = columns; rows = rows; tracks = tracks }) s) }
+fn compile_text(heap: Global, size: Size, text: &str) -> Result<Said, AllocError>
+    ensures { IfOk result (λ s. SaysCompiled size s) }
 {
     match numbers(heap, text) {
-        Ok(numbers) => compile_asked(
-            heap,
-            Asked {
-                rows,
-                columns,
-                tracks,
-                numbers: numbers.as_slice(),
-            },
-        ),
+        Ok(numbers) => {
+            let numbers = numbers.as_slice();
+            compile_asked(heap, Asked { size, numbers })
+        }
         Err(Unput::Memory) => Err(AllocError),
         Err(Unput::Turned(refusal)) => unreadable(heap, text, refusal),
     }
 }
 
 // Puts a design in numbers on a fabric. Only want of memory is an error here.
-pub fn compile(
-    heap: Global,
-    rows: u64,
-    columns: u64,
-    tracks: u64,
-    design: &[u8],
-) -> Result<Said, AllocError>
-    ensures { IfOk result (λ s. SaysCompiled (record { columns = columns; rows = rows; tracks = tracks }) s) }
+pub fn compile(heap: Global, size: Size, design: &[u8]) -> Result<Said, AllocError>
+    ensures { IfOk result (λ s. SaysCompiled size s) }
 {
     match text_of(design) {
-        Ok(text) => compile_text(heap, rows, columns, tracks, text),
+        Ok(text) => compile_text(heap, size, text),
         Err(line) => refused(heap, Trouble::Bytes { of: "design", line }),
     }
 }

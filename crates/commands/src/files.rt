@@ -1,45 +1,40 @@
-// Files, standard streams and how a program ends.
-ghost use Rattle.std.specs.Prelude.{◌≡◌, ◌≤◌, false, length, is_ok};
+// Files, standard streams and how a program ends. Of what the system gives no contract can speak.
+ghost use Rattle.std.specs.Prelude.{◌≡◌, false, is_ok};
 
 use crate::said::Said;
 use std::alloc::AllocError;
 use std::io::Read;
-use std::{fs, io};
+use std::{env, fs, io};
 
 // The program has said on standard error what is wrong.
-#[derive(Clone, Copy)]
+#[derive(Clone, Copy, Debug, PartialEq, Eq)]
 pub struct Failed;
+
+// Says what is wrong, where that can be printed.
+fn report(rt: &HostRuntime, message: &str) -> Failed {
+    let _ = rt.eprintln(message);
+    Failed
+}
 
 // Says what is wrong.
 pub fn fail(rt: &HostRuntime, message: &str) -> Result<(), Failed>
     ensures { is_ok result ≡ false }
 {
-    let _ = rt.eprintln(message);
-    Err(Failed) // also where that can't be printed
+    Err(report(rt, message))
 }
 
-// A word of the command, or an empty one.
-pub(crate) fn argument(words: &[String], i: usize) -> &str
-    ensures { length words.now ≤ i → length result.now ≡ 0 }
-{
-    if i < words.len() {
-        words[i].as_str()
-    } else {
-        ""
-    }
-}
-
-// Whether a word of the command is that one.
-pub(crate) fn is(words: &[String], i: usize, wanted: &str) -> bool {
-    argument(words, i) == wanted
+// The words of the command, the program's own name first.
+pub fn arguments(rt: &HostRuntime) -> Result<Vec<String>, Failed> {
+    let words = env::args(rt).map_err(|_| report(rt, "the arguments can't be read"))?;
+    words
+        .collect(rt.alloc())
+        .map_err(|_| report(rt, "there isn't enough memory"))
 }
 
 // Prints a text.
 pub(crate) fn print(rt: &HostRuntime, text: &str) -> Result<(), Failed> {
-    match rt.print(text) {
-        Ok(()) => Ok(()),
-        Err(_) => fail(rt, "can't write to standard output"),
-    }
+    rt.print(text)
+        .map_err(|_| report(rt, "can't write to standard output"))
 }
 
 // All of a file, or of standard input for `-`.
@@ -54,13 +49,10 @@ fn read_all(rt: &HostRuntime, path: &str) -> io::Result<Vec<u8>> {
 
 // All of a file, or of standard input for `-`; else it says that there is none.
 pub(crate) fn load(rt: &HostRuntime, path: &str) -> Result<Vec<u8>, Failed> {
-    match read_all(rt, path) {
-        Ok(bytes) => Ok(bytes),
-        Err(e) => {
-            let _ = eprintln!(rt; "can't read {path:?}: {e}");
-            Err(Failed)
-        }
-    }
+    read_all(rt, path).map_err(|e| {
+        let _ = eprintln!(rt; "can't read {path:?}: {e}");
+        Failed
+    })
 }
 
 // Prints an answer, or says why there is none.

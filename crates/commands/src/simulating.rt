@@ -6,6 +6,7 @@ use crate::said::Said;
 use crate::texts::{line_of, refused, text_of};
 use design::refusal::Refusal;
 use fabric::grid::Grid;
+use fabric::size::Size;
 use listings::parts::Listing;
 use messages::trouble::{Asked, Trouble};
 use reading::lines::read;
@@ -33,12 +34,12 @@ fn unplayable<'a>(
 fn untickable(heap: Global, grid: Grid, refusal: Refusal) -> Result<Said, AllocError>
     ensures { IfOk result (λ s. SaysRefusal s) }
 {
-    let asked = Asked {
-        rows: grid.rows as u64,
+    let size = Size {
         columns: grid.columns as u64,
+        rows: grid.rows as u64,
         tracks: grid.tracks as u64,
-        numbers: &[],
     };
+    let asked = Asked { size, numbers: &[] };
     refused(heap, Trouble::Design { refusal, asked })
 }
 

@@ -1,7 +1,7 @@
 // The program that plays a stream on a listing, and prints what is shown tick by tick.
 ghost use Rattle.std.specs.Prelude.{◌≡◌, ◌<◌, false, length, is_ok};
 
-use crate::files::{Failed, argument, fail, is, load, print, say};
+use crate::files::{Failed, fail, load, print, say};
 use crate::simulating::simulate;
 
 const HELP: &str = "simulate: play a stream on a configured fabric
@@ -30,27 +30,25 @@ const USAGE: &str =
     "write: simulate LISTING STREAM, of which one may be - (simulate --help says more)";
 
 // simulate LISTING STREAM
-fn simulate_files(rt: &HostRuntime, words: &[String]) -> Result<(), Failed> {
-    let listing = load(rt, argument(words, 1))?;
-    let inputs = load(rt, argument(words, 2))?;
+fn simulate_files(rt: &HostRuntime, listing: &str, stream: &str) -> Result<(), Failed> {
+    let listing = load(rt, listing)?;
+    let inputs = load(rt, stream)?;
     say(
         rt,
         simulate(rt.alloc(), listing.as_slice(), inputs.as_slice()),
     )
 }
 
-// What `simulate` does with its words, its own name first.
-pub(crate) fn run(rt: &HostRuntime, words: &[String]) -> Result<(), Failed>
+// What `simulate` does with its words, its own name first; with none but that it fails. Where it fails, it has said why on
+// standard error.
+pub fn run(rt: &HostRuntime, words: &[String]) -> Result<(), Failed>
     ensures { length words.now < 2 → is_ok result ≡ false }
 {
-    if words.len() < 2 {
-        return fail(rt, USAGE);
+    match words {
+        [_, help, ..] if help.as_str() == "--help" => print(rt, HELP),
+        [_, listing, stream] if listing.as_str() != "-" || stream.as_str() != "-" => {
+            simulate_files(rt, listing.as_str(), stream.as_str())
+        }
+        _ => fail(rt, USAGE),
     }
-    if is(words, 1, "--help") {
-        return print(rt, HELP);
-    }
-    if words.len() != 3 || is(words, 1, "-") && is(words, 2, "-") {
-        return fail(rt, USAGE);
-    }
-    simulate_files(rt, words)
 }

@@ -7,6 +7,7 @@ mod tests {
     use commands::said::Said;
     use commands::simulating::simulate;
     use design::encoded::Encoded;
+    use fabric::size::Size;
     use putting::widths::output_widths;
     use reading::lines::read;
     use reading::unread::Unread;
@@ -174,7 +175,12 @@ cell 0 right 2 from own ";
     }
 
     fn compiled(heap: Global, design: &str, rows: u64) -> Result<String, AllocError> {
-        marked(heap, compile(heap, rows, 2, 4, design.as_bytes()))
+        let size = Size {
+            columns: 2,
+            rows,
+            tracks: 4,
+        };
+        marked(heap, compile(heap, size, design.as_bytes()))
     }
 
     #[test]
@@ -194,6 +200,20 @@ cell 0 right 2 from own ";
                 design
             );
         }
+        Ok(())
+    }
+
+    // The words behind the head, where a word is wider than can be put yet.
+    #[test]
+    fn messages(rt: HostRuntime) -> Result<(), Fail> {
+        assert_eq!(rt;
+            compiled(rt.alloc(), "1 0 1 1 2 0 0 0 0 0", 1)?.as_str(),
+            "! refused 9 at 1: only single bits, inputs, registers, and, xor and fabrics of one row can be had yet; node 1 is of another kind, or else a word is wider or the fabric has more rows"
+        );
+        assert_eq!(rt;
+            played(rt.alloc(), WIRES, "a 4 b 0")?.as_str(),
+            "! refused 8 at 0: line 1 of the stream can't be read: \"a 4 b 0\"; each line gives every input once, with a number that fits it: a of 2 bits b of 1 bits"
+        );
         Ok(())
     }
 

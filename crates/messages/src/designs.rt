@@ -1,139 +1,162 @@
 // Why a design can't be put on a fabric.
-use crate::fields::{number_at, say};
-use crate::texts::print_size;
+use crate::texts::size_hint;
 use crate::trouble::Asked;
 use design::refusal::Refusal;
-use pages::page::Page;
-use std::alloc::{AllocError, Global};
+use fabric::size::Size;
+use std::fmt;
 
-// The fabric that was asked for, as `fabric 4 5 25`.
-fn asked_size(heap: Global, asked: Asked) -> Result<String, AllocError> {
-    let mut page = Page::new(heap);
-    say(&mut page, "fabric ", asked.rows);
-    say(&mut page, " ", asked.columns);
-    say(&mut page, " ", asked.tracks);
-    page.done()
+// A number of a design; 0 past the end.
+fn number_at(numbers: &[u64], place: usize) -> u64 {
+    numbers.get(place).copied().unwrap_or(0)
 }
 
-fn print_asked_size(page: &mut Page, heap: Global, refusal: Refusal, asked: Asked) {
-    match asked_size(heap, asked) {
-        Ok(size) => print_size(page, heap, refusal, size.as_str()),
-        Err(_) => page.lost = true,
-    }
+// A size that there isn't.
+fn write_size<W: fmt::Write>(
+    f: &mut fmt::Formatter<W>,
+    refusal: Refusal,
+    size: Size,
+) -> fmt::Result {
+    let Size {
+        columns,
+        rows,
+        tracks,
+    } = size;
+    let hint = size_hint(refusal);
+    write!(f, "\"fabric {rows} {columns} {tracks}\" {hint}")
 }
 
-fn print_length(page: &mut Page, numbers: &[u64], expected: u64) {
-    say(page, "the design has ", numbers.len() as u64);
-    say(page, " numbers and should have ", expected);
-    say(
-        page,
-        ": 4 counts, then 1 for each of ",
-        number_at(numbers, 0),
-    );
-    say(page, " inputs, 3 for each of ", number_at(numbers, 1));
-    say(page, " registers, 1 for each of ", number_at(numbers, 2));
-    say(page, " outputs and 4 for each of ", number_at(numbers, 3));
-    page.add(" nodes");
+fn write_length<W: fmt::Write>(
+    f: &mut fmt::Formatter<W>,
+    numbers: &[u64],
+    expected: u64,
+) -> fmt::Result {
+    let count = numbers.len();
+    let inputs = number_at(numbers, 0);
+    let registers = number_at(numbers, 1);
+    let outputs = number_at(numbers, 2);
+    let nodes = number_at(numbers, 3);
+    write!(
+        f,
+        "the design has {count} numbers and should have {expected}: 4 counts, then 1 for each of {inputs} inputs, 3 for each of {registers} registers, 1 for each of {outputs} outputs and 4 for each of {nodes} nodes"
+    )
 }
 
-fn print_name(page: &mut Page, numbers: &[u64], place: u64) {
-    say(page, "number ", place);
-    say(
-        page,
-        " of the design, counted from 0, names node ",
-        number_at(numbers, place as usize),
-    );
-    say(page, ", and there are ", number_at(numbers, 3));
-    page.add(" nodes, counted from 0");
+fn write_name<W: fmt::Write>(
+    f: &mut fmt::Formatter<W>,
+    numbers: &[u64],
+    place: u64,
+) -> fmt::Result {
+    let node = number_at(numbers, place as usize);
+    let nodes = number_at(numbers, 3);
+    write!(
+        f,
+        "number {place} of the design, counted from 0, names node {node}, and there are {nodes} nodes, counted from 0"
+    )
 }
 
 // A number, a node or a name that a design can't have.
-fn print_content(page: &mut Page, refusal: Refusal, numbers: &[u64]) {
+fn write_content<W: fmt::Write>(
+    f: &mut fmt::Formatter<W>,
+    refusal: Refusal,
+    numbers: &[u64],
+) -> fmt::Result {
     match refusal {
-        Refusal::NumberTooLarge { place } => {
-            say(page, "number ", place);
-            page.add(" of the design, counted from 0, is above 65535");
-        }
+        Refusal::NumberTooLarge { place } => write!(
+            f,
+            "number {place} of the design, counted from 0, is above 65535"
+        ),
         Refusal::TooManyNodes => {
-            say(page, "the design has ", number_at(numbers, 3));
-            page.add(" nodes, and 1024 is the most");
+            let nodes = number_at(numbers, 3);
+            write!(f, "the design has {nodes} nodes, and 1024 is the most")
         }
-        Refusal::BadNode { node } => {
-            say(page, "node ", node);
-            page.add(
-                " is of no kind, which are 0 to 12, or names a node that doesn't stand before it",
-            );
-        }
-        _ => print_name(page, numbers, refusal.place()),
+        Refusal::BadNode { node } => write!(
+            f,
+            "node {node} is of no kind, which are 0 to 12, or names a node that doesn't stand before it"
+        ),
+        _ => write_name(f, numbers, refusal.place()),
     }
 }
 
 // A design whose widths don't fit.
-fn print_soundness(page: &mut Page, refusal: Refusal, numbers: &[u64]) {
-    let place = refusal.place();
+fn write_soundness<W: fmt::Write>(
+    f: &mut fmt::Formatter<W>,
+    refusal: Refusal,
+    numbers: &[u64],
+) -> fmt::Result {
     let registers = number_at(numbers, 1);
     match refusal {
-        Refusal::UnsoundRegister { .. } => {
-            say(page, "register ", place);
-            page.add(
-                " is to have 1 to 64 bits, and a node of that width whose operands exist and fit each other",
-            );
-        }
-        Refusal::UnsoundOutput { .. } => {
-            say(page, "output ", place.saturating_sub(registers));
-            page.add(" is to name a node whose operands exist and fit each other");
+        Refusal::UnsoundRegister { register } => write!(
+            f,
+            "register {register} is to have 1 to 64 bits, and a node of that width whose operands exist and fit each other"
+        ),
+        Refusal::UnsoundOutput { place } => {
+            let output = place.saturating_sub(registers);
+            write!(
+                f,
+                "output {output} is to name a node whose operands exist and fit each other"
+            )
         }
         _ => {
             let outputs = number_at(numbers, 2);
-            say(
-                page,
-                "input ",
-                place.saturating_sub(registers).saturating_sub(outputs),
-            );
-            page.add(" is to have 1 to 64 bits");
+            let input = refusal
+                .place()
+                .saturating_sub(registers)
+                .saturating_sub(outputs);
+            write!(f, "input {input} is to have 1 to 64 bits")
         }
     }
 }
 
 // A fabric that is too small.
-fn print_layout(page: &mut Page, refusal: Refusal, asked: Asked) {
-    say(
-        page,
-        "no layout was found: the plain one takes ",
-        refusal.place(),
-    );
-    if let Refusal::Cells { .. } = refusal {
-        say(
-            page,
-            " cells, and the fabric has ",
-            asked.rows.saturating_mul(asked.columns),
-        );
-        page.add("; ask for more rows or columns");
-    } else {
-        say(page, " tracks, and the fabric has ", asked.tracks);
-        page.add("; ask for more tracks");
+fn write_layout<W: fmt::Write>(
+    f: &mut fmt::Formatter<W>,
+    refusal: Refusal,
+    size: Size,
+) -> fmt::Result {
+    let needed = refusal.place();
+    let tracks = size.tracks;
+    let cells = size.rows.saturating_mul(size.columns);
+    match refusal {
+        Refusal::Cells { .. } => write!(
+            f,
+            "no layout was found: the plain one takes {needed} cells, and the fabric has {cells}; ask for more rows or columns"
+        ),
+        _ => write!(
+            f,
+            "no layout was found: the plain one takes {needed} tracks, and the fabric has {tracks}; ask for more tracks"
+        ),
     }
 }
 
-// What is left: too little room for pins, and lists of another length.
-fn print_other(page: &mut Page, refusal: Refusal) {
-    if let Refusal::Pins { needed } = refusal {
-        say(page, "the inputs and outputs have ", needed);
-        page.add(" bits, which is more than there is room for");
-    } else {
-        page.add(
-            "a list of numbers is of another length than the fabric has; that is a fault of this program",
-        );
-    }
-}
-
-pub(crate) fn print_design(page: &mut Page, heap: Global, refusal: Refusal, asked: Asked) {
+// What is left: lists of another length, too little room for pins, and what can't be had yet.
+fn write_other<W: fmt::Write>(f: &mut fmt::Formatter<W>, refusal: Refusal) -> fmt::Result {
+    let place = refusal.place();
     match refusal.number() {
-        1 => print_asked_size(page, heap, refusal, asked),
-        2 => print_length(page, asked.numbers, refusal.place()),
-        3 => print_content(page, refusal, asked.numbers),
-        5 => print_soundness(page, refusal, asked.numbers),
-        7 => print_layout(page, refusal, asked),
-        _ => print_other(page, refusal),
+        4 => f.write_str(
+            "a list of numbers is of another length than the fabric has; that is a fault of this program",
+        ),
+        6 => write!(
+            f,
+            "the inputs and outputs have {place} bits, which is more than there is room for"
+        ),
+        _ => write!(
+            f,
+            "only single bits, inputs, registers, and, xor and fabrics of one row can be had yet; node {place} is of another kind, or else a word is wider or the fabric has more rows"
+        ),
+    }
+}
+
+pub(crate) fn write_design<W: fmt::Write>(
+    f: &mut fmt::Formatter<W>,
+    refusal: Refusal,
+    asked: Asked,
+) -> fmt::Result {
+    match refusal.number() {
+        1 => write_size(f, refusal, asked.size),
+        2 => write_length(f, asked.numbers, refusal.place()),
+        3 => write_content(f, refusal, asked.numbers),
+        5 => write_soundness(f, refusal, asked.numbers),
+        7 => write_layout(f, refusal, asked.size),
+        _ => write_other(f, refusal),
     }
 }

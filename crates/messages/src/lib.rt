@@ -1,8 +1,7 @@
 // Refusals in plain words.
 #![tactic(auto)]
 
-pub mod designs;
-pub mod fields;
+mod designs;
 pub mod refusing;
-pub mod texts;
+mod texts;
 pub mod trouble;

@@ -8,25 +8,13 @@ use std::alloc::Global;
 use words::cutting::lines;
 use words::numbers::decimal_or_most;
 
-// The number that a word writes goes after those before.
-fn add_word(numbers: &mut Vec<u64>, word: &str, line: usize) -> Result<(), Unput>
-    ensures { IfErr result (λ u. AtLine line u) }
-{
-    let Some(n) = decimal_or_most(word) else {
-        return Err(Unput::Turned(Refusal::Text { line: line as u64 }));
-    };
-    match numbers.push(n) {
-        Ok(()) => Ok(()),
-        Err(_) => Err(Unput::Memory),
-    }
-}
-
 // The numbers of a line go after those before.
 fn add_line(numbers: &mut Vec<u64>, text: &str, line: usize) -> Result<(), Unput>
     ensures { IfErr result (λ u. AtLine line u) }
 {
+    let unreadable = Refusal::Text { line: line as u64 };
     for word in text.split_whitespace() {
-        add_word(numbers, word, line)?;
+        numbers.push(decimal_or_most(word).ok_or(unreadable)?)?;
     }
     Ok(())
 }
@@ -45,8 +33,6 @@ fn all_numbers(heap: Global, lines: &[&str]) -> Result<Vec<u64>, Unput>
 pub fn numbers(heap: Global, text: &str) -> Result<Vec<u64>, Unput>
     ensures { IfErr result (λ u. Unreadable text.now u) }
 {
-    match lines(heap, text) {
-        Ok(lines) => all_numbers(heap, lines.as_slice()),
-        Err(_) => Err(Unput::Memory),
-    }
+    let lines = lines(heap, text)?;
+    all_numbers(heap, lines.as_slice())
 }

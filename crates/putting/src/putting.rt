@@ -8,7 +8,7 @@ ghost use Rattle.putting.specs.Refusing.{asked_refusal, expected};
 use crate::pinning::ports;
 use crate::unput::Unput;
 use crate::widths::{bits, input_widths, output_widths};
-use bitstream::{Made, put_words};
+use bitstream::{Made, put};
 use design::encoded::Encoded;
 use design::refusal::Refusal;
 use fabric::grid::Grid;
@@ -23,11 +23,7 @@ const MOST_PINS: usize = 65535;
 fn number_at(numbers: &[u64], place: usize) -> u64
     ensures { result ≡ slice_index numbers.now place }
 {
-    if place < numbers.len() {
-        numbers[place]
-    } else {
-        0
-    }
+    numbers.get(place).copied().unwrap_or(0)
 }
 
 // How many numbers the design should have, as its counts say.
@@ -49,60 +45,49 @@ fn narrowed(heap: Global, numbers: &[u64]) -> Result<Vec<u16>, Unput>
     ensures { IfOk result (λ v. vec_len v ≡ length numbers.now) }
 {
     let mut design = Vec::new(heap);
-    for n in numbers {
-        if *n > 65535 {
-            return Err(Unput::Turned(Refusal::NumberTooLarge {
-                place: design.len() as u64,
-            }));
-        }
-        if design.push(*n as u16).is_err() {
-            return Err(Unput::Memory);
-        }
+    for (place, n) in numbers.iter().enumerate() {
+        let place = place as u64;
+        design.push(u16::try_from(*n).map_err(|_| Refusal::NumberTooLarge { place })?)?;
     }
     Ok(design)
 }
 
-fn zeros(heap: Global, len: usize) -> Result<Vec<u16>, Unput>
-    ensures { IfOk result (λ v. vec_len v ≡ len) }
-{
-    match Vec::from_elem(heap, 0, len) {
-        Ok(zeros) => Ok(zeros),
-        Err(_) => Err(Unput::Memory),
-    }
-}
-
 // The room that a design takes; its pins are written.
-fn put_room(heap: Global, grid: Grid, design: &[u16], pins: &mut [u16]) -> Result<Vec<u16>, Unput>
+fn put_room(
+    heap: Global,
+    grid: Grid,
+    design: &[u16],
+    pins: &mut [[u16; 3]],
+) -> Result<Vec<u16>, Unput>
     ensures { IfOk result (λ v. vec_len v ≡ room_length (size_of grid)) }
 {
-    let mut room = zeros(heap, grid.room_len())?;
-    match put_words(
+    let mut room = Vec::from_elem(heap, 0, grid.room_len())?;
+    match put(
         grid.columns as u64,
         grid.rows as u64,
         grid.tracks as u64,
         design,
         room.as_mut_slice(),
-        pins,
+        pins.as_flattened_mut(),
     ) {
         Made::Placed => Ok(room),
-        Made::Refused(refusal) => Err(Unput::Turned(refusal)),
+        Made::Refused(refusal) => Err(Unput::from(refusal)),
     }
 }
 
-// The listing of a room and its pins.
-fn listed(
-    heap: Global,
-    grid: Grid,
-    room: Vec<u16>,
-    ins: &[u16],
-    outs: &[u16],
-    pins: &[u16],
-) -> Result<Listing, Unput>
-    requires { vec_len room ≡ room_length (size_of grid) }
+// Puts a design that fits 16 bits on the grid.
+fn put_design(heap: Global, grid: Grid, design: &[u16]) -> Result<Listing, Unput>
     ensures { IfOk result (λ l. l.grid ≡ grid) }
 {
-    let inputs = ports(heap, "i", ins, pins, 0)?;
-    let outputs = ports(heap, "o", outs, pins, bits(ins))?;
+    let read = Encoded::new(design);
+    let ins = input_widths(heap, read)?;
+    let outs = output_widths(heap, read)?;
+    let first_output = bits(ins.as_slice()).min(MOST_PINS);
+    let needed = first_output.saturating_add(bits(outs.as_slice()));
+    let mut pins = Vec::from_elem(heap, [0; 3], needed.min(MOST_PINS))?;
+    let room = put_room(heap, grid, design, pins.as_mut_slice())?;
+    let inputs = ports(heap, "i", ins.as_slice(), pins.as_slice())?;
+    let outputs = ports(heap, "o", outs.as_slice(), &pins[first_output..])?;
     Ok(Listing {
         grid,
         room,
@@ -111,68 +96,15 @@ fn listed(
     })
 }
 
-// Puts a design with these widths on the grid.
-fn placed(
-    heap: Global,
-    grid: Grid,
-    design: &[u16],
-    ins: &[u16],
-    outs: &[u16],
-) -> Result<Listing, Unput>
-    ensures { IfOk result (λ l. l.grid ≡ grid) }
-{
-    let needed = bits(ins).saturating_add(bits(outs));
-    let mut pins = zeros(heap, 3 * needed.min(MOST_PINS))?;
-    let room = put_room(heap, grid, design, pins.as_mut_slice())?;
-    listed(heap, grid, room, ins, outs, pins.as_slice())
-}
-
-// Puts a design that fits 16 bits on the grid.
-fn put_design(heap: Global, grid: Grid, design: &[u16]) -> Result<Listing, Unput>
-    ensures { IfOk result (λ l. l.grid ≡ grid) }
-{
-    let read = Encoded::new(design);
-    let Ok(ins) = input_widths(heap, read) else {
-        return Err(Unput::Memory);
-    };
-    let Ok(outs) = output_widths(heap, read) else {
-        return Err(Unput::Memory);
-    };
-    placed(heap, grid, design, ins.as_slice(), outs.as_slice())
-}
-
-// Puts as many numbers as there should be on the grid.
-fn put_numbers(heap: Global, grid: Grid, numbers: &[u64]) -> Result<Listing, Unput>
-    ensures { IfOk result (λ l. l.grid ≡ grid) }
-{
-    let design = narrowed(heap, numbers)?;
-    put_design(heap, grid, design.as_slice())
-}
-
 // The listing of a design on a fabric. The fabric is looked at first, then how many numbers there are, then each number.
-pub fn compiled(
-    heap: Global,
-    rows: u64,
-    columns: u64,
-    tracks: u64,
-    numbers: &[u64],
-) -> Result<Listing, Unput>
-    ensures { MatchOption (asked_refusal (record { columns = columns; rows = rows; tracks = tracks }) numbers.now)
-        (IfOk result (λ l. size_of l.grid ≡ record { columns = columns; rows = rows; tracks = tracks }))
-        (λ f. result ≡ Err (Turned f)) }
+pub fn compiled(heap: Global, size: Size, numbers: &[u64]) -> Result<Listing, Unput>
+    ensures { MatchOption (asked_refusal size numbers.now) (IfOk result (λ l. size_of l.grid ≡ size)) (λ f. result ≡ Err (Turned f)) }
 {
-    let size = Size {
-        columns,
-        rows,
-        tracks,
-    };
-    let grid = match Grid::try_from(size) {
-        Ok(grid) => grid,
-        Err(refusal) => return Err(Unput::Turned(refusal)),
-    };
+    let grid = Grid::try_from(size)?;
     let expected = expected_len(numbers);
     if numbers.len() as u64 != expected {
-        return Err(Unput::Turned(Refusal::DesignLength { expected }));
+        return Err(Unput::from(Refusal::DesignLength { expected }));
     }
-    put_numbers(heap, grid, numbers)
+    let design = narrowed(heap, numbers)?;
+    put_design(heap, grid, design.as_slice())
 }

@@ -1,5 +1,9 @@
 // Why a design isn't put on a fabric.
+ghost use Rattle.std.specs.Prelude.{◌≡◌};
+ghost use Rattle.putting.specs.declared.unput.Unput.TheVariants.{Memory, Turned};
+
 use design::refusal::Refusal;
+use std::alloc::{AllocError, AllocFailed};
 
 #[derive(Clone, Copy)]
 pub enum Unput {
@@ -7,4 +11,28 @@ pub enum Unput {
     Memory,
     // the design or the fabric is turned away
     Turned(Refusal),
+}
+
+impl From<AllocError> for Unput {
+    ghost from_gives = { λ _ u. u ≡ Memory };
+
+    fn from(_e: AllocError) -> Unput {
+        Unput::Memory
+    }
+}
+
+impl<T: Drop> From<AllocFailed<T>> for Unput {
+    ghost from_gives = { λ _ u. u ≡ Memory };
+
+    fn from(_e: AllocFailed<T>) -> Unput {
+        Unput::Memory
+    }
+}
+
+impl From<Refusal> for Unput {
+    ghost from_gives = { λ e u. u ≡ Turned e };
+
+    fn from(refusal: Refusal) -> Unput {
+        Unput::Turned(refusal)
+    }
 }

@@ -12,13 +12,9 @@ use std::alloc::{AllocError, Global};
 pub(crate) fn input_widths(heap: Global, design: Encoded<'_>) -> Result<Vec<u16>, AllocError>
     ensures { IfOk result (λ v. vec_len v ≡ inputs_of (list_of design.entry)) }
 {
-    let mut widths = Vec::new(heap);
-    for input in 0..design.inputs() {
-        if widths.push(design.input_width(input)).is_err() {
-            return Err(AllocError);
-        }
-    }
-    Ok(widths)
+    (0..design.inputs())
+        .map(|input| design.input_width(input))
+        .collect(heap)
 }
 
 // The width of each output, where it is sound.
@@ -26,20 +22,14 @@ pub fn output_widths(heap: Global, design: Encoded<'_>) -> Result<Vec<u16>, Allo
     ensures { IfOk result (λ v. vec_len v ≡ outputs_of (list_of design.entry)) }
 {
     let analysis = Analysis::new(design);
-    let mut widths = Vec::new(heap);
-    for output in 0..design.outputs() {
-        if widths.push(output_width(&analysis, output)).is_err() {
-            return Err(AllocError);
-        }
-    }
-    Ok(widths)
+    (0..design.outputs())
+        .map(|output| output_width(&analysis, output))
+        .collect(heap)
 }
 
 // The sum of widths.
 pub(crate) fn bits(widths: &[u16]) -> usize {
-    let mut sum = 0usize;
-    for width in widths {
-        sum = sum.saturating_add(*width as usize);
-    }
-    sum
+    widths
+        .iter()
+        .fold(0usize, |sum, width| sum.saturating_add(*width as usize))
 }

@@ -2,6 +2,6 @@
 #![tactic(auto)]
 
 pub mod player;
-pub mod state;
-pub mod streams;
+mod state;
+mod streams;
 pub mod unplayed;

@@ -3,23 +3,23 @@ ghost use Rattle.std.specs.Prelude.{◌≡◌};
 ghost use Rattle.fabric.specs.Code.{size_of};
 ghost use Rattle.fabric.specs.Numbers.{pad_place};
 
-use crate::unplayed::Unplayed;
 use fabric::grid::Grid;
 use fabric::parts::Pin;
 use fabric::ticking::{Done, tick};
 use listings::parts::{Listing, Port};
-use pages::page::Page;
-use std::alloc::Global;
+use std::alloc::{AllocError, Global};
 
-// What each cell holds, what comes in at each pad, and what each track carries.
+// What each cell of a listing's fabric holds, what comes in at each pad, and what each track carries.
 #[derive(Drop)]
-pub(crate) struct State {
+pub(crate) struct State<'a> {
+    listing: &'a Listing,
     held: Vec<u8>,
     pads: Vec<u8>,
     outs: Vec<u8>,
 }
 
 // Where a pin stands among all pads.
+#[tactic(auto, unfolding(fabric::specs::Numbers::pad_place))]
 fn pad_place(grid: Grid, pin: Pin) -> usize
     ensures { result ≡ pad_place (size_of grid) pin.cell pin.side pin.track }
 {
@@ -27,137 +27,84 @@ fn pad_place(grid: Grid, pin: Pin) -> usize
     edge * grid.tracks + pin.track as usize
 }
 
-// Whether the cell holds 1 at first.
-fn initial(grid: Grid, room: &[u16], cell: usize) -> u8 {
-    let at = cell.saturating_mul(grid.per_cell()).saturating_add(21);
-    if at < room.len() && room[at] == 1 {
-        1
-    } else {
-        0
-    }
-}
-
 // What each cell holds at first.
-fn hold(held: &mut [u8], grid: Grid, room: &[u16]) {
-    for (cell, slot) in held.iter_mut().enumerate() {
-        *slot = initial(grid, room, cell);
-    }
+#[tactic(auto, unfolding(fabric::specs::Numbers::per_cell))]
+fn initial(heap: Global, listing: &Listing) -> Result<Vec<u8>, AllocError> {
+    let size = listing.grid.per_cell();
+    listing
+        .room
+        .as_slice()
+        .chunks_exact(size)
+        .map(|cell| if cell.get(21) == Some(&1) { 1 } else { 0 })
+        .collect(heap)
 }
 
-// Bit k of a number.
-fn bit(n: u64, k: usize) -> u8 {
-    if k < 64 { (n >> k & 1) as u8 } else { 0 }
-}
-
-// A number with bit k set.
-fn with_bit(n: u64, k: usize) -> u64 {
-    if k < 64 { n | 1 << k } else { n }
-}
-
-fn put_bit(pads: &mut [u8], at: usize, bit: u8) {
-    if at < pads.len() {
-        pads[at] = bit;
-    }
-}
-
-// Puts a number on the pins of an input.
-fn put_input(pads: &mut [u8], grid: Grid, pins: &[Pin], n: u64) {
-    for (k, pin) in pins.iter().enumerate() {
-        put_bit(pads, pad_place(grid, *pin), bit(n, k));
-    }
-}
-
-// Puts the numbers of a tick on the pins of the inputs, from that place on.
-fn put_inputs(pads: &mut [u8], grid: Grid, inputs: &[Port], numbers: &[u64], start: usize) {
-    for (i, port) in inputs.iter().enumerate() {
-        let at = start.saturating_add(i);
-        if at < numbers.len() {
-            put_input(pads, grid, port.pins.as_slice(), numbers[at]);
+// Puts a number on the pins of an input, the low bit first.
+fn put_input(pads: &mut [u8], grid: Grid, port: &Port, n: u64) {
+    let mut rest = n;
+    for pin in &port.pins {
+        if let Some(pad) = pads.get_mut(pad_place(grid, *pin)) {
+            *pad = (rest & 1) as u8;
         }
+        rest >>= 1;
     }
 }
 
-fn is_set(outs: &[u8], at: usize) -> bool {
-    at < outs.len() && outs[at] == 1
-}
-
-// The number that the pins of an output carry.
-fn output(outs: &[u8], grid: Grid, pins: &[Pin]) -> u64 {
-    let mut n = 0;
-    for (k, pin) in pins.iter().enumerate() {
-        if is_set(outs, pad_place(grid, *pin)) {
-            n = with_bit(n, k);
-        }
-    }
-    n
-}
-
-fn print_output(page: &mut Page, outs: &[u8], grid: Grid, port: &Port) {
-    page.add(port.name.as_str());
-    page.add(" ");
-    page.number(output(outs, grid, port.pins.as_slice()));
-}
-
-// The line of the outputs, with their numbers.
-fn print_outputs(page: &mut Page, outs: &[u8], grid: Grid, outputs: &[Port]) {
-    for (i, port) in outputs.iter().enumerate() {
-        if i > 0 {
-            page.add(" ");
-        }
-        print_output(page, outs, grid, port);
-    }
-    page.add("\n");
-}
-
-fn zeros(heap: Global, len: usize) -> Result<Vec<u8>, Unplayed> {
-    match Vec::from_elem(heap, 0, len) {
-        Ok(zeros) => Ok(zeros),
-        Err(_) => Err(Unplayed::Memory),
+// The bit that a pin carries.
+fn bit_at(outs: &[u8], grid: Grid, pin: Pin) -> u64 {
+    match outs.get(pad_place(grid, pin)) {
+        Some(1) => 1,
+        _ => 0,
     }
 }
 
-impl State {
+impl<'a> State<'a> {
     // The fabric before its first tick, with 0 at every pad.
-    pub(crate) fn new(heap: Global, listing: &Listing) -> Result<State, Unplayed> {
-        let mut held = zeros(heap, listing.grid.cells())?;
-        hold(held.as_mut_slice(), listing.grid, listing.room.as_slice());
-        let pads = zeros(heap, listing.grid.pads_len())?;
-        let outs = zeros(heap, listing.grid.pads_len())?;
-        Ok(State { held, pads, outs })
+    pub(crate) fn new(heap: Global, listing: &'a Listing) -> Result<State<'a>, AllocError> {
+        let held = initial(heap, listing)?;
+        let pads = Vec::from_elem(heap, 0, listing.grid.pads_len())?;
+        let outs = Vec::from_elem(heap, 0, listing.grid.pads_len())?;
+        Ok(State {
+            listing,
+            held,
+            pads,
+            outs,
+        })
     }
 
-    fn tick(&mut self, listing: &Listing) -> Done {
-        let grid = listing.grid;
+    // Plays a tick with these inputs.
+    pub(crate) fn play(&mut self, inputs: &[u64]) -> Done {
+        let grid = self.listing.grid;
+        for (port, n) in self.listing.inputs.iter().zip(inputs) {
+            put_input(self.pads.as_mut_slice(), grid, port, *n);
+        }
         tick(
             grid.columns as u64,
             grid.rows as u64,
             grid.tracks as u64,
-            listing.room.as_slice(),
+            self.listing.room.as_slice(),
             self.held.as_mut_slice(),
             self.pads.as_slice(),
             self.outs.as_mut_slice(),
         )
     }
 
-    // Plays a tick with the inputs from that place on.
-    pub(crate) fn play(&mut self, listing: &Listing, numbers: &[u64], start: usize) -> Done {
-        put_inputs(
-            self.pads.as_mut_slice(),
-            listing.grid,
-            listing.inputs.as_slice(),
-            numbers,
-            start,
-        );
-        self.tick(listing)
+    // The number that the pins of an output carry, the low bit at the first.
+    fn output(&self, port: &Port) -> u64 {
+        let grid = self.listing.grid;
+        let outs = self.outs.as_slice();
+        port.pins
+            .iter()
+            .rev()
+            .fold(0, |n, pin| n << 1 | bit_at(outs, grid, *pin))
     }
 
-    // What is shown after the tick.
-    pub(crate) fn print(&self, page: &mut Page, listing: &Listing) {
-        print_outputs(
-            page,
-            self.outs.as_slice(),
-            listing.grid,
-            listing.outputs.as_slice(),
-        );
+    // Adds the line of the outputs, with their numbers after the tick.
+    pub(crate) fn print(&self, out: &mut String) -> Result<(), AllocError> {
+        for (i, port) in self.listing.outputs.iter().enumerate() {
+            let space = if i > 0 { " " } else { "" };
+            write!(out, "{space}{} {}", port.name, self.output(port))?;
+        }
+        out.push_str("\n")
     }
 }

@@ -1,7 +1,0 @@
-use Rattle.std.proofs.Common.{ℕ, ◌+◌, ◌*◌, ap}
-use Rattle.fabric.specs.Numbers.{pad_place}
-use Rattle.stream.proofs.player.pad_place.Goals as goal
-
-pub returns : goal.returns
-unfolding pad_place
-returns c = ap (λ (s : ℕ). (c.args.pin.cell * 4 + s) * c.args.grid.tracks + c.args.pin.track) c.from.ensures.0
