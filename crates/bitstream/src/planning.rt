@@ -16,7 +16,8 @@ use netlist::landed::landed;
 use netlist::lowering::lower_words;
 use route::plain::Plain;
 
-// The request, or why it is none: refusals 1 to 6.
+// The request, or why it is none: refusals 1 to 6. The room and the pins are lent for their lengths alone, and are written later: a struct
+// of all four would have to be taken apart again, so it is no plainer.
 fn accept<'a>(
     size: Size,
     numbers: &'a [u16],
