@@ -1,9 +1,10 @@
 -- The numbers that are written for a cell, and what they make of the fabric.
-use Rattle.std.proofs.Common.{◌≡◌, ℕ, ◌+◌, ◌-◌, ◌*◌, ◌/◌, ◌%◌, ◌^◌, ◌<◌, ◌≤◌, Bool, true, false, cond, eqb, List, length, get_or, Some, None, Option, unwrap_or, refl, ap, ◌∙◌, arith}
+use Rattle.std.proofs.Common.{◌≡◌, ℕ, ◌+◌, ◌-◌, ◌*◌, ◌/◌, ◌%◌, ◌^◌, ◌<◌, ◌≤◌, Bool, true, false, cond, eqb, List, ◌++◌, length, get_or, take, drop, Some, None, Option, unwrap_or, refl, ap, ◌∙◌, ⊎_elim, mul-le-mul_right, add-mul, arith, length-drop, length-take}
+use borrow.Rule.Slice.PartMut.{put_mid, post_of}
+use Rattle.std.proofs.lemmas.List.{length-take-le, get_or_append_left, get_or-append_right, get_or-take}
 use Rattle.std.specs.Option.{option_map}
-use native.Mathlib.Nat.{div-le_self}
-use Rattle.std.proofs.lemmas.Nat.{div-mul-add, mod-mul-add, mul-add-lt}
-use Rattle.std.proofs.lemmas.Bool.{lt-ltb}
+use Rattle.std.proofs.lemmas.Nat.{mod-mul-add}
+use Rattle.std.proofs.lemmas.Bool.{lt-ltb, cases_eq}
 use Rattle.design.specs.Designs.{word}
 use Rattle.fabric.specs.declared.parts.Side.{Side}
 use Rattle.fabric.specs.declared.parts.Side.TheVariants.{Left}
@@ -20,7 +21,7 @@ use Rattle.netlist.specs.Building.{input_of}
 use Rattle.route.specs.Nets.{Exists}
 use Rattle.route.specs.Plain.{toward, plain_source, plain_net}
 use Rattle.bitstream.specs.declared.plans.Plan.{Plan}
-use Rattle.bitstream.specs.Plans.{grid_of, NumberAt, PlanHas, CellsWritten}
+use Rattle.bitstream.specs.Plans.{grid_of, inputs_of, count_of, cell_of, NumberAt, CellsWritten}
 
 -- a net that a cell of the plan reads is there
 pub net_exists : (i n : ℕ) (net : Net) → ((j : ℕ) → (net ≡ Input j → j < i) × (net ≡ Cell j → j < n)) → Exists i n net
@@ -102,21 +103,51 @@ module _ (z : Size) (i n : ℕ) (cell : CellT) (c j x : ℕ) where
         stands z i n c x net s room exists is q ∙ ap (plain_source z i c) (e ∙ ap (plain_net i n) m);
   }
 
--- the places of the numbers of a cell
-pub some_numbers : (z : Size) → 0 < per_cell z
-unfolding per_cell
-some_numbers z = omega arith
+-- a part of a list is written: what lies elsewhere is as it was
+pub part_here : (a k j : ℕ) (xs ys : List ℕ) → a ≤ length xs → length ys ≡ k → j < k → get_or (put_mid a k xs ys) (a + j) 0 ≡ get_or ys j 0
+part_here a k j xs ys within long h =
+    let t : length (take a xs) ≡ a = length-take-le a xs within in
+    get_or-append_right (take a xs) (ys ++ post_of a k xs) a (a + j) 0 t (omega arith)
+    ∙ ap (λ m. get_or (ys ++ post_of a k xs) m 0) (let e : a + j - a ≡ j = omega arith in e)
+    ∙ get_or_append_left ys (post_of a k xs) 0 j (omega arith)
 
-pub few_cells_before : (g : Grid) (k size : ℕ) → k < room_length (size_of g) → k / size < 2 ^ 16
-unfolding room_length per_cell
-few_cells_before g k size h = omega (arith, div-le_self k size, g.fits)
+pub part_before : (a k m : ℕ) (xs ys : List ℕ) → a ≤ length xs → m < a → get_or (put_mid a k xs ys) m 0 ≡ get_or xs m 0
+part_before a k m xs ys within h =
+    let t : length (take a xs) ≡ a = length-take-le a xs within in
+    get_or_append_left (take a xs) (ys ++ post_of a k xs) 0 m (omega arith) ∙ get_or-take a xs m 0 h
 
--- every number of the room is what the plan has at its place
-pub cells_written : (p : Plan) (size : ℕ) (xs : List ℕ) → size ≡ per_cell (grid_of p) → length xs ≡ room_length (grid_of p) →
-    ((k : ℕ) → k < length xs → PlanHas p (k / size) (k % size) (get_or xs k 0)) → CellsWritten p (cell_count (grid_of p)) xs
+-- a cell's part lies within the room
+pub part_within : (z : Size) (at size cells : ℕ) → at < cells → size ≡ per_cell z → cells ≡ cell_count z → at * size + size ≤ room_length z
 unfolding room_length
-cells_written p size xs e long has b j h l =
-    let m : j < size = omega arith in
-    let within : b * size + j < length xs = rw e (omega (arith, mul-add-lt b (per_cell (grid_of p)) j (cell_count (grid_of p)) h l)) in
-    let w = has (b * size + j) within in
-    rw (← e) (rw (div-mul-add b size j m, mod-mul-add b size j m) at w)
+part_within z at size cells h e n = rw (e, ← n) (omega (arith, mul-le-mul_right (per_cell z) (let s : at + 1 ≤ cells = omega arith in s), add-mul at 1 (per_cell z)))
+
+-- one cell more is written
+pub cell_more : (p : Plan) (at size : ℕ) (xs ys : List ℕ) → size ≡ per_cell (grid_of p) → at * size + size ≤ length xs → length ys ≡ size →
+    CellsWritten p at xs →
+    ((j : ℕ) → j < size → NumberAt (grid_of p) (inputs_of p) (count_of p) (cell_of p at) at j (get_or ys j 0)) →
+    CellsWritten p (at + 1) (put_mid (at * size) size xs ys)
+cell_more p at size xs ys e room long before here b j h l = ⊎_elim
+    (λ (q : b ≡ at). rw (q, ← e) (rw (part_here (at * size) size j xs ys (omega arith) long (omega arith)) (here j (omega arith))))
+    (λ (q : b ≡ at → ⊥).
+    let s : b * size + size ≤ at * size = omega (arith, mul-le-mul_right size (let s : b + 1 ≤ at = omega arith in s), add-mul b 1 size) in
+    rw (← e) (rw (part_before (at * size) size (b * size + j) xs ys (omega arith) (omega arith)) (rw (← e) at (before b j (omega arith) l))))
+    (cases_eq b at)
+
+pub room_small : (g : Grid) → room_length (size_of g) ≤ 32000
+unfolding room_length per_cell
+room_small g = g.fits
+
+pub part_small : (p : Plan) (at size cells : ℕ) → at < cells → size ≡ per_cell (grid_of p) → cells ≡ cell_count (grid_of p) → at * size + size ≤ 32000
+part_small p at size cells h e n = omega (arith, part_within (grid_of p) at size cells h e n, room_small p.routing.grid)
+
+-- the same, as the code has it: the part ends at its start and its size
+pub cell_step : (p : Plan) (at size cells : ℕ) (xs ys : List ℕ) → at < cells → size ≡ per_cell (grid_of p) → cells ≡ cell_count (grid_of p) → length xs ≡ room_length (grid_of p) →
+    length ys ≡ length (take (at * size + size - at * size) (drop (at * size) xs)) →
+    CellsWritten p at xs →
+    ((j : ℕ) → j < length (take (at * size + size - at * size) (drop (at * size) xs)) → NumberAt (grid_of p) (inputs_of p) (count_of p) (cell_of p at) at j (get_or ys j 0)) →
+    CellsWritten p (at + 1) (put_mid (at * size) (at * size + size - at * size) xs ys)
+cell_step p at size cells xs ys h e n room long before here =
+    let w : at * size + size ≤ length xs = omega (arith, part_within (grid_of p) at size cells h e n) in
+    let s : at * size + size - at * size ≡ size = omega arith in
+    let t : length (take (at * size + size - at * size) (drop (at * size) xs)) ≡ size = simp (length-take, length-drop) (omega arith) in
+    rw s (cell_more p at size xs ys e w (long ∙ t) before (λ j l. here j (omega arith)))

@@ -20,7 +20,7 @@ impl Plan {
     }
 
     // The pins of the input bits, then those of the output bits; what lies past them stays. Three places are written at a time, and not a
-    // chunk, for the reason that `write_room` gives.
+    // chunk, since after a loop over `chunks_exact_mut` a proof knows nothing of what the chunks hold.
     pub(crate) fn write_pins(&self, pins: &mut [u16])
         requires { 3 * self.now.pins ≤ length pins.old }
         ensures { PinsWritten self.now self.now.pins pins.old pins.new }

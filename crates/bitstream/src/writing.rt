@@ -1,5 +1,5 @@
 // Writing the bits of a plan into the room.
-ghost use Rattle.std.specs.Prelude.{◌≡◌, length};
+ghost use Rattle.std.specs.Prelude.{◌≡◌, ℕ, ◌<◌, length, slice_index};
 ghost use Rattle.fabric.specs.Numbers.{room_length};
 ghost use Rattle.fabric.specs.Fabrics.{cell_count};
 ghost use Rattle.bitstream.specs.Plans.{grid_of, PlanHas, CellsWritten};
@@ -26,15 +26,26 @@ impl Plan {
         }
     }
 
-    // The numbers of the whole fabric, cell by cell. One loop goes over all of them: after one over `chunks_exact_mut`, which was
-    // tried, a proof knows nothing of what the chunks hold.
+    // The numbers of one cell of the fabric.
+    fn write_cell(&self, at: u16, numbers: &mut [u16])
+        ensures { (j : ℕ) → j < length numbers.old → PlanHas self.now at j (slice_index numbers.new j) }
+    {
+        for (j, written) in numbers.iter_mut().enumerate() {
+            *written = self.number(at, j);
+        }
+    }
+
+    // The numbers of the whole fabric, cell by cell: each cell's part of the room is lent on to be written. It is cut out by its places, a
+    // form that is set for this code; after a loop over `chunks_exact_mut`, which was tried, a proof knows nothing of what the chunks hold.
     pub(crate) fn write_room(&self, room: &mut [u16])
         requires { length room.old ≡ room_length (grid_of self.now) }
         ensures { CellsWritten self.now (cell_count (grid_of self.now)) room.new }
     {
-        let size = self.routing.grid.per_cell();
-        for (place, written) in room.iter_mut().enumerate() {
-            *written = self.number((place / size) as u16, place % size);
+        let grid = self.routing.grid;
+        let size = grid.per_cell();
+        for at in 0..grid.cells() {
+            let start = at * size;
+            self.write_cell(at as u16, &mut room[start..start + size]);
         }
     }
 }

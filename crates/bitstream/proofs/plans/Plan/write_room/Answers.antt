@@ -1,24 +1,28 @@
-use Rattle.std.proofs.Common.{◌<◌, ◌≢◌, length, ◌∙◌, arith, below_more, get_or-set_other, get_or-set_same}
-use Rattle.fabric.specs.Code.{size_of}
-use Rattle.bitstream.proofs.Placing.{some_numbers, few_cells_before, cells_written}
+use Rattle.std.proofs.Common.{◌+◌, ◌*◌, ◌≤◌, length, ◌∙◌, arith, rules}
+use Rattle.bitstream.proofs.Placing.{part_within, part_small, cell_step}
 use Rattle.bitstream.proofs.plans.Plan.write_room.Goals as goal
 
-pub nonzero_div-place : goal.nonzero_div-place
-nonzero_div-place c = omega (arith, some_numbers (size_of c.args.self.now.routing.grid))
+pub loop-at-init : goal.loop-at-init
+loop-at-init c = λ b j h l. absurd (omega arith)
 
-pub nonzero_rem-place : goal.nonzero_rem-place
-nonzero_rem-place c = omega (arith, some_numbers (size_of c.args.self.now.routing.grid))
+pub overflow_mul-start : goal.overflow_mul-start
+overflow_mul-start c = let s = part_small c.args.self.now _ _ _ c.loop-at-test.true c.per_cell-size.ensures c.cells-at-end.ensures in record { fits = omega (arith, s) }
 
-pub overflow_cast-place : goal.overflow_cast-place
-overflow_cast-place c = record { fits = few_cells_before c.args.self.now.routing.grid c.loop-place.place c.per_cell-size.result (omega arith) }
+pub overflow_add-start : goal.overflow_add-start
+overflow_add-start c = let s = part_small c.args.self.now _ _ _ c.loop-at-test.true c.per_cell-size.ensures c.cells-at-end.ensures in record { fits = omega (arith, s) }
 
-pub loop-place-preserved : goal.loop-place-preserved
-loop-place-preserved c =
-    below_more _ _
-    (λ k h. let ne : k ≢ c.loop-place.place = omega arith in rw get_or-set_other (c.loop-place.invariant k h))
-    (let lt : c.loop-place.place < length c.loop-place.room = omega arith in rw get_or-set_same c.number.ensures)
+pub offset_bounds-room-start : goal.offset_bounds-room-start
+offset_bounds-room-start c = let s = part_small c.args.self.now _ _ _ c.loop-at-test.true c.per_cell-size.ensures c.cells-at-end.ensures in record { fits = omega (arith, s) }
+
+pub slice_bounds-write_cell-end : goal.slice_bounds-write_cell-end
+slice_bounds-write_cell-end c =
+    let s = part_within _ _ _ _ c.loop-at-test.true c.per_cell-size.ensures c.cells-at-end.ensures in
+    let l : c.loop-at.at * c.per_cell-size.result + c.per_cell-size.result ≤ length c.loop-at.room = omega (arith, s, c.loop-at.auto.room, c.requires) in
+    search rules
+
+pub loop-at-preserved : goal.loop-at-preserved
+loop-at-preserved c =
+    cell_step c.args.self.now _ _ _ _ _ c.loop-at-test.true c.per_cell-size.ensures c.cells-at-end.ensures (c.loop-at.auto.room ∙ c.requires) c.write_cell.auto.numbers c.loop-at.invariant c.write_cell.ensures
 
 pub returns : goal.returns
-returns c =
-    cells_written c.args.self.now c.per_cell-size.result c.loop-place.room c.per_cell-size.ensures (c.loop-place.auto.room ∙ c.requires)
-    (λ k h. c.loop-place.invariant k (omega arith))
+returns c = λ b j h l. c.loop-at.invariant b j (omega (arith, c.loop-at-test.false, c.cells-at-end.ensures)) l

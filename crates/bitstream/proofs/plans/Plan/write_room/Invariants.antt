@@ -1,6 +1,5 @@
-use Rattle.std.proofs.Common.{ℕ, ◌/◌, ◌%◌, ◌<◌, get_or}
-use Rattle.bitstream.specs.Plans.{PlanHas}
+use Rattle.bitstream.specs.Plans.{CellsWritten}
 use Rattle.bitstream.proofs.plans.Plan.write_room.Given as goal
 
-abbrev pub invariant-loop-place : goal.invariant-loop-place
-invariant-loop-place l = (k : ℕ) → k < l.place → PlanHas l.self (k / l.size) (k % l.size) (get_or l.room k 0)
+abbrev pub invariant-loop-at : goal.invariant-loop-at
+invariant-loop-at l = CellsWritten l.self l.at l.room
