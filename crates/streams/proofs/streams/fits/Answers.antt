@@ -1,4 +1,4 @@
-use Rattle.std.proofs.Common.{◌^◌, arith, pow_mono, lit<}
+use Rattle.std.proofs.Common.{arith, pow_mono, lit<}
 use Rattle.std.proofs.lemmas.Bool.Decides.{nat_tests}
 use Rattle.std.proofs.lemmas.Nat.{shl_whole}
 use Rattle.streams.proofs.streams.fits.Goals as goal
