@@ -42,6 +42,7 @@ fn unreadable(heap: Global, text: &str, refusal: Refusal) -> Result<Said, AllocE
     refused(heap, Trouble::Numbers { line, text })
 }
 
+// A match for the same reason.
 fn compile_text(heap: Global, size: Size, text: &str) -> Result<Said, AllocError>
     ensures { IfOk result (λ s. SaysCompiled size s) }
 {

@@ -43,6 +43,7 @@ fn untickable(heap: Global, grid: Grid, refusal: Refusal) -> Result<Said, AllocE
     refused(heap, Trouble::Design { refusal, asked })
 }
 
+// A match, and no `?`: want of memory goes on, and a refusal is said.
 fn play_text(heap: Global, listing: &Listing, text: &str) -> Result<Said, AllocError>
     ensures { IfOk result (λ s. SaysPlayed (vec_len listing.now.inputs) text.now s) }
 {
@@ -63,7 +64,7 @@ fn play_bytes(heap: Global, listing: &Listing, stream: &[u8]) -> Result<Said, Al
     }
 }
 
-// Says why a listing isn't read.
+// Says why a listing isn't read; want of memory goes on.
 fn unread(heap: Global, text: &str, why: Unread) -> Result<Said, AllocError>
     ensures { IfOk result (λ s. SaysRefusal s) }
 {

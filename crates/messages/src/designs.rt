@@ -130,18 +130,17 @@ fn write_layout<W: fmt::Write>(
 
 // What is left: lists of another length, too little room for pins, and what can't be had yet.
 fn write_other<W: fmt::Write>(f: &mut fmt::Formatter<W>, refusal: Refusal) -> fmt::Result {
-    let place = refusal.place();
-    match refusal.number() {
-        4 => f.write_str(
+    match refusal {
+        Refusal::Pins { needed } => write!(
+            f,
+            "the inputs and outputs have {needed} bits, which is more than there is room for"
+        ),
+        Refusal::NotYet { node } => write!(
+            f,
+            "only single bits, inputs, registers, and, xor and fabrics of one row can be had yet; node {node} is of another kind, or else a word is wider or the fabric has more rows"
+        ),
+        _ => f.write_str(
             "a list of numbers is of another length than the fabric has; that is a fault of this program",
-        ),
-        6 => write!(
-            f,
-            "the inputs and outputs have {place} bits, which is more than there is room for"
-        ),
-        _ => write!(
-            f,
-            "only single bits, inputs, registers, and, xor and fabrics of one row can be had yet; node {place} is of another kind, or else a word is wider or the fabric has more rows"
         ),
     }
 }
@@ -151,12 +150,19 @@ pub(crate) fn write_design<W: fmt::Write>(
     refusal: Refusal,
     asked: Asked,
 ) -> fmt::Result {
-    match refusal.number() {
-        1 => write_size(f, refusal, asked.size),
-        2 => write_length(f, asked.numbers, refusal.place()),
-        3 => write_content(f, refusal, asked.numbers),
-        5 => write_soundness(f, refusal, asked.numbers),
-        7 => write_layout(f, refusal, asked.size),
+    match refusal {
+        Refusal::Rows | Refusal::Columns | Refusal::Tracks | Refusal::FabricSize => {
+            write_size(f, refusal, asked.size)
+        }
+        Refusal::DesignLength { expected } => write_length(f, asked.numbers, expected),
+        Refusal::NumberTooLarge { .. }
+        | Refusal::TooManyNodes
+        | Refusal::BadNode { .. }
+        | Refusal::NoSuchNode { .. } => write_content(f, refusal, asked.numbers),
+        Refusal::UnsoundRegister { .. }
+        | Refusal::UnsoundOutput { .. }
+        | Refusal::UnsoundInput { .. } => write_soundness(f, refusal, asked.numbers),
+        Refusal::Cells { .. } | Refusal::NetTracks { .. } => write_layout(f, refusal, asked.size),
         _ => write_other(f, refusal),
     }
 }

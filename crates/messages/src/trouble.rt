@@ -28,7 +28,8 @@ pub enum Trouble<'a> {
         line: u64,
         text: &'a str,
     },
-    // a line of a listing that can't be read: it isn't formed as it should be, or else it can't stand there
+    // a line of a listing that can't be read: it isn't formed as it should be, or else it can't stand
+    // there; a flag, as the reading of listings has it
     Listing {
         line: u64,
         text: &'a str,

@@ -16,7 +16,7 @@ pub enum Unput {
 impl From<AllocError> for Unput {
     ghost from_gives = { λ _ u. u ≡ Memory };
 
-    fn from(_e: AllocError) -> Unput {
+    fn from(_: AllocError) -> Unput {
         Unput::Memory
     }
 }
@@ -24,8 +24,8 @@ impl From<AllocError> for Unput {
 impl<T: Drop> From<AllocFailed<T>> for Unput {
     ghost from_gives = { λ _ u. u ≡ Memory };
 
-    fn from(_e: AllocFailed<T>) -> Unput {
-        Unput::Memory
+    fn from(failed: AllocFailed<T>) -> Unput {
+        Unput::from(AllocError::from(failed))
     }
 }
 

@@ -28,7 +28,7 @@ impl Unread {
 impl From<AllocError> for Unread {
     ghost from_gives = { λ _ r. r ≡ Memory };
 
-    fn from(_e: AllocError) -> Unread {
+    fn from(_: AllocError) -> Unread {
         Unread::Memory
     }
 }
@@ -36,8 +36,8 @@ impl From<AllocError> for Unread {
 impl<T: Drop> From<AllocFailed<T>> for Unread {
     ghost from_gives = { λ _ r. r ≡ Memory };
 
-    fn from(_e: AllocFailed<T>) -> Unread {
-        Unread::Memory
+    fn from(failed: AllocFailed<T>) -> Unread {
+        Unread::from(AllocError::from(failed))
     }
 }
 

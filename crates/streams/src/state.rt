@@ -35,7 +35,7 @@ fn initial(heap: Global, listing: &Listing) -> Result<Vec<u8>, AllocError> {
         .room
         .as_slice()
         .chunks_exact(size)
-        .map(|cell| if cell.get(21) == Some(&1) { 1 } else { 0 })
+        .map(|cell| u8::from(cell.get(21) == Some(&1)))
         .collect(heap)
 }
 
@@ -52,10 +52,7 @@ fn put_input(pads: &mut [u8], grid: Grid, port: &Port, n: u64) {
 
 // The bit that a pin carries.
 fn bit_at(outs: &[u8], grid: Grid, pin: Pin) -> u64 {
-    match outs.get(pad_place(grid, pin)) {
-        Some(1) => 1,
-        _ => 0,
-    }
+    u64::from(outs.get(pad_place(grid, pin)) == Some(&1))
 }
 
 impl<'a> State<'a> {

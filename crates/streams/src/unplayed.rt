@@ -18,7 +18,7 @@ pub enum Unplayed {
 impl From<AllocError> for Unplayed {
     ghost from_gives = { λ _ u. u ≡ Memory };
 
-    fn from(_e: AllocError) -> Unplayed {
+    fn from(_: AllocError) -> Unplayed {
         Unplayed::Memory
     }
 }
@@ -26,8 +26,8 @@ impl From<AllocError> for Unplayed {
 impl<T: Drop> From<AllocFailed<T>> for Unplayed {
     ghost from_gives = { λ _ u. u ≡ Memory };
 
-    fn from(_e: AllocFailed<T>) -> Unplayed {
-        Unplayed::Memory
+    fn from(failed: AllocFailed<T>) -> Unplayed {
+        Unplayed::from(AllocError::from(failed))
     }
 }
 
