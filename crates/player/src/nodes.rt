@@ -1,9 +1,10 @@
 // The words of a design's nodes in one tick: one pass over the nodes, in their order.
-ghost use Rattle.std.specs.Prelude.{◌≡◌, ◌≤◌, slice_index};
+ghost use Rattle.std.specs.Prelude.{◌≡◌, slice_index};
 ghost use Rattle.design.specs.Encodings.{list_of};
 ghost use Rattle.player.specs.Tables.{Wide, Evaluated, Tabled};
 
 use crate::operations::{and, concat, equal, less, low_bits, mux, not, or, slice, sum, xor};
+use crate::width::Width;
 use design::analysis::Analysis;
 use design::node::Node;
 
@@ -14,12 +15,11 @@ pub(crate) fn at(numbers: &[u64], place: u16) -> u64
     numbers.get(place as usize).copied().unwrap_or(0)
 }
 
-// The width of a node that is well-formed; at most 64, whatever the node is.
-fn width(analysis: &Analysis<'_>, n: u16) -> u32
-    ensures small { result ≤ 64 }
-    ensures is { Wide (list_of analysis.now.design) n result }
+// The width of a node that is well-formed.
+fn width(analysis: &Analysis<'_>, n: u16) -> Width
+    ensures { Wide (list_of analysis.now.design) n result.bits }
 {
-    analysis.width(n).min(64) as u32
+    Width::of(analysis.width(n))
 }
 
 // The word of node n, from the words of the nodes that it names.
@@ -42,8 +42,8 @@ fn evaluate(
         Node::Xor(a, b) => xor(at(known, a), at(known, b), bits),
         Node::Not(a) => not(at(known, a), bits),
         Node::Add(a, b) => sum(at(known, a), at(known, b), bits),
-        Node::Less(a, b) => less(at(known, a), at(known, b), width(analysis, a), bits),
-        Node::Equal(a, b) => equal(at(known, a), at(known, b), width(analysis, a), bits),
+        Node::Less(a, b) => less(at(known, a), at(known, b), width(analysis, a).bits, bits),
+        Node::Equal(a, b) => equal(at(known, a), at(known, b), width(analysis, a).bits, bits),
         Node::Mux { choice, one, zero } => mux(
             at(known, choice),
             at(known, one),
@@ -54,7 +54,7 @@ fn evaluate(
         Node::Concat { high, low } => concat(
             at(known, high),
             at(known, low),
-            width(analysis, low),
+            width(analysis, low).bits,
             bits,
         ),
     }
