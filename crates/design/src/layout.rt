@@ -85,6 +85,7 @@ pub(crate) fn output_node(numbers: &[u16], output: u16) -> u16
 }
 
 // A node from its kind and operands; above 12 there is no kind.
+#[tactic(auto, using(std::proofs::lemmas::Bool::Decides::nat_tests), unfolding(crate::specs::Numbers::decode))]
 fn decoded(kind: u16, a: u16, b: u16, c: u16) -> Option<Node>
     ensures { result ≡ decode kind a b c }
 {
