@@ -1,14 +1,9 @@
 // Where the numbers of a design stand in its list, and what stands there. A number that is missing counts as 0.
-ghost use Rattle.std.specs.Prelude.{◌≡◌, ◌+◌, ◌*◌, ◌^◌, ◌<◌, ◌≤◌, slice_index};
+ghost use Rattle.std.specs.Prelude.{◌≡◌, ◌+◌, ◌*◌, ◌^◌, ◌<◌};
 ghost use Rattle.design.specs.Numbers.{inputs_of, registers_of, outputs_of, nodes_of, register_place, output_place, node_place, register_node, output_node, expected_length, decode, node_in};
 
+use crate::lookup::at;
 use crate::node::Node;
-
-pub(crate) fn at(numbers: &[u16], place: usize) -> u16
-    ensures { result ≡ slice_index numbers.now place }
-{
-    numbers.get(place).copied().unwrap_or(0)
-}
 
 #[tactic(auto, unfolding(crate::specs::Numbers::inputs_of))]
 pub(crate) fn inputs(numbers: &[u16]) -> u16

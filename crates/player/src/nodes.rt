@@ -1,19 +1,12 @@
 // The words of a design's nodes in one tick: one pass over the nodes, in their order.
-ghost use Rattle.std.specs.Prelude.{◌≡◌, slice_index};
 ghost use Rattle.design.specs.Encodings.{list_of};
 ghost use Rattle.player.specs.Tables.{Wide, Evaluated, Tabled};
 
 use crate::operations::{and, concat, equal, less, low_bits, mux, not, or, slice, sum, xor};
 use crate::width::Width;
 use design::analysis::Analysis;
+use design::lookup::at;
 use design::node::Node;
-
-// The number at a place; one that is missing counts as 0.
-pub(crate) fn at(numbers: &[u64], place: u16) -> u64
-    ensures { result ≡ slice_index numbers.now place }
-{
-    numbers.get(place as usize).copied().unwrap_or(0)
-}
 
 // What the words of one tick come from: a design, and the numbers of its inputs' and its registers' words.
 #[derive(Clone, Copy)]
@@ -37,26 +30,36 @@ impl Tick<'_> {
     {
         let width = self.width(n);
         match self.analysis.design.node(n) {
-            Node::Input(i) => low_bits(at(self.inputs, i), width),
-            Node::Register(r) => low_bits(at(self.registers, r), width),
+            Node::Input(i) => low_bits(at(self.inputs, i as usize), width),
+            Node::Register(r) => low_bits(at(self.registers, r as usize), width),
             Node::Constant { value, .. } => low_bits(value as u64, width),
-            Node::And(a, b) => and(at(known, a), at(known, b), width),
-            Node::Or(a, b) => or(at(known, a), at(known, b), width),
-            Node::Xor(a, b) => xor(at(known, a), at(known, b), width),
-            Node::Not(a) => not(at(known, a), width),
-            Node::Add(a, b) => sum(at(known, a), at(known, b), width),
-            Node::Less(a, b) => less(at(known, a), at(known, b), self.width(a).bits, width),
-            Node::Equal(a, b) => equal(at(known, a), at(known, b), self.width(a).bits, width),
-            Node::Mux { choice, one, zero } => mux(
-                at(known, choice),
-                at(known, one),
-                at(known, zero),
+            Node::And(a, b) => and(at(known, a as usize), at(known, b as usize), width),
+            Node::Or(a, b) => or(at(known, a as usize), at(known, b as usize), width),
+            Node::Xor(a, b) => xor(at(known, a as usize), at(known, b as usize), width),
+            Node::Not(a) => not(at(known, a as usize), width),
+            Node::Add(a, b) => sum(at(known, a as usize), at(known, b as usize), width),
+            Node::Less(a, b) => less(
+                at(known, a as usize),
+                at(known, b as usize),
+                self.width(a).bits,
                 width,
             ),
-            Node::Slice { low, of, .. } => slice(low, at(known, of), width),
+            Node::Equal(a, b) => equal(
+                at(known, a as usize),
+                at(known, b as usize),
+                self.width(a).bits,
+                width,
+            ),
+            Node::Mux { choice, one, zero } => mux(
+                at(known, choice as usize),
+                at(known, one as usize),
+                at(known, zero as usize),
+                width,
+            ),
+            Node::Slice { low, of, .. } => slice(low, at(known, of as usize), width),
             Node::Concat { high, low } => concat(
-                at(known, high),
-                at(known, low),
+                at(known, high as usize),
+                at(known, low as usize),
                 self.width(low).bits,
                 width,
             ),

@@ -8,10 +8,10 @@ ghost use Rattle.player.specs.Plays.{Holds};
 ghost use Rattle.player.specs.Tables.{Taken};
 
 use crate::fault::Fault;
-use crate::nodes::at;
 use crate::operations::low_bits;
 use crate::width::Width;
 use design::encoded::{Encoded, Register};
+use design::lookup::at;
 use std::alloc::Global;
 
 // The word that a register begins with.
@@ -41,7 +41,7 @@ pub(crate) fn advance(design: Encoded<'_>, table: &[u64], words: &mut [u64])
     let registers = design.registers() as usize;
     for (k, word) in words.iter_mut().enumerate() {
         if k < registers {
-            *word = at(table, design.register(k as u16).next);
+            *word = at(table, design.register(k as u16).next as usize);
         }
     }
 }
@@ -53,7 +53,7 @@ pub(crate) fn shown(heap: Global, design: Encoded<'_>, table: &[u64]) -> Result<
         (λ fault. fault ≡ Memory) }
 {
     let words = (0..design.outputs())
-        .map(|k| at(table, design.output(k)))
+        .map(|k| at(table, design.output(k) as usize))
         .collect(heap)?;
     Ok(words)
 }
