@@ -56,7 +56,7 @@ fn summarize(design: Encoded<'_>, known: &[Summary], node: Node) -> Summary
     }
 }
 
-// The summaries of all nodes.
+// The summaries of all nodes. Each comes from those before it, so they are written by their places: `iter_mut` would lend all of them.
 pub(crate) fn pass(design: Encoded<'_>) -> [Summary; 1024]
     ensures { Known (design_of design.entry) (node_expr (list_of design.entry)) (nodes_of (list_of design.entry)) result }
 {

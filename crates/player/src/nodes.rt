@@ -66,7 +66,7 @@ impl Tick<'_> {
         }
     }
 
-    // The words of all nodes.
+    // The words of all nodes. Each comes from those before it, so they are written by their places: `iter_mut` would lend all of them.
     pub(crate) fn table(self) -> [u64; 1024]
         ensures { let t = self.entry in Tabled (list_of t.analysis.now.design) t.inputs.now t.registers.now result }
     {

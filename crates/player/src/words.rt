@@ -33,7 +33,8 @@ pub(crate) fn initial(heap: Global, design: Encoded<'_>) -> Result<Vec<u64>, Fau
     Ok(words)
 }
 
-// Gives the registers the words that they become.
+// Gives the registers the words that they become. After a loop over a `zip` with their places, which was tried, a proof knows nothing
+// of the words.
 pub(crate) fn advance(design: Encoded<'_>, table: &[u64], words: &mut [u64])
     ensures { length words.old ≡ (design_of design.entry).registers →
         Taken (design_of design.entry).registers (register_node (list_of design.entry)) table.now words.new }
