@@ -6,6 +6,7 @@ ghost use Rattle.design.specs.Summaries.{Summarizes, Known};
 ghost use Rattle.design.specs.Encodings.{list_of, design_of};
 
 use crate::encoded::Encoded;
+use crate::lookup::at;
 use crate::pass;
 use crate::summary::Summary;
 
@@ -32,7 +33,7 @@ impl<'a> Analysis<'a> {
         ensures { n < nodes_of (list_of self.now.design) →
             Summarizes (design_of self.now.design) (node_expr (list_of self.now.design) n) result }
     {
-        pass::at(&self.known, n)
+        at(&self.known, n as usize)
     }
 
     // The width of a node that is well-formed.

@@ -3,6 +3,7 @@ ghost use Rattle.std.specs.Prelude.{◌≡◌, ◌<◌, ◌≤◌, true, false, 
 ghost use Rattle.design.specs.Designs.{word};
 ghost use Rattle.design.specs.Numbers.{inputs_of, registers_of, outputs_of, nodes_of, register_node, output_node, node_in, names_below, design_in, reading_refusal};
 
+use crate::lookup::at;
 use crate::node::Node;
 use crate::refusal::Refusal;
 use crate::{faults, layout};
@@ -85,7 +86,7 @@ impl<'a> Encoded<'a> {
     pub fn input_width(self, input: u16) -> u16
         ensures { result ≡ (design_in self.entry.numbers.now).input_width input }
     {
-        layout::at(self.numbers, 4 + input as usize)
+        at(self.numbers, 4 + input as usize)
     }
 
     pub fn register(self, register: u16) -> Register
@@ -96,8 +97,8 @@ impl<'a> Encoded<'a> {
     {
         let place = layout::register_place(self.numbers, register);
         Register {
-            width: layout::at(self.numbers, place),
-            initial: layout::at(self.numbers, place + 1),
+            width: at(self.numbers, place),
+            initial: at(self.numbers, place + 1),
             next: layout::register_node(self.numbers, register),
         }
     }

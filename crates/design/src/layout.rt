@@ -1,39 +1,39 @@
 // Where the numbers of a design stand in its list, and what stands there. A number that is missing counts as 0.
-ghost use Rattle.std.specs.Prelude.{◌≡◌, ◌+◌, ◌*◌, ◌^◌, ◌<◌, ◌≤◌, slice_index};
+ghost use Rattle.std.specs.Prelude.{◌≡◌, ◌+◌, ◌*◌, ◌^◌, ◌<◌};
 ghost use Rattle.design.specs.Numbers.{inputs_of, registers_of, outputs_of, nodes_of, register_place, output_place, node_place, register_node, output_node, expected_length, decode, node_in};
 
+use crate::lookup::at;
 use crate::node::Node;
 
-pub(crate) fn at(numbers: &[u16], place: usize) -> u16
-    ensures { result ≡ slice_index numbers.now place }
-{
-    numbers.get(place).copied().unwrap_or(0)
-}
-
+#[tactic(auto, unfolding(crate::specs::Numbers::inputs_of))]
 pub(crate) fn inputs(numbers: &[u16]) -> u16
     ensures { result ≡ inputs_of numbers.now }
 {
     at(numbers, 0)
 }
 
+#[tactic(auto, unfolding(crate::specs::Numbers::registers_of))]
 pub(crate) fn registers(numbers: &[u16]) -> u16
     ensures { result ≡ registers_of numbers.now }
 {
     at(numbers, 1)
 }
 
+#[tactic(auto, unfolding(crate::specs::Numbers::outputs_of))]
 pub(crate) fn outputs(numbers: &[u16]) -> u16
     ensures { result ≡ outputs_of numbers.now }
 {
     at(numbers, 2)
 }
 
+#[tactic(auto, unfolding(crate::specs::Numbers::nodes_of))]
 pub(crate) fn nodes(numbers: &[u16]) -> u16
     ensures { result ≡ nodes_of numbers.now }
 {
     at(numbers, 3)
 }
 
+#[tactic(auto, unfolding(crate::specs::Numbers::register_place))]
 pub(crate) fn register_place(numbers: &[u16], register: u16) -> usize
     ensures place { result ≡ register_place numbers.now register }
     ensures bound { result < 2 ^ 19 }
@@ -41,6 +41,7 @@ pub(crate) fn register_place(numbers: &[u16], register: u16) -> usize
     4 + inputs(numbers) as usize + 3 * register as usize
 }
 
+#[tactic(auto, unfolding(crate::specs::Numbers::output_place, crate::specs::Numbers::register_place))]
 pub(crate) fn output_place(numbers: &[u16], output: u16) -> usize
     ensures place { result ≡ output_place numbers.now output }
     ensures bound { result < 2 ^ 20 }
@@ -48,6 +49,7 @@ pub(crate) fn output_place(numbers: &[u16], output: u16) -> usize
     register_place(numbers, registers(numbers)) + output as usize
 }
 
+#[tactic(auto, unfolding(crate::specs::Numbers::node_place, crate::specs::Numbers::output_place))]
 pub(crate) fn node_place(numbers: &[u16], node: u16) -> usize
     ensures place { result ≡ node_place numbers.now node }
     ensures bound { result < 2 ^ 21 }
@@ -55,6 +57,7 @@ pub(crate) fn node_place(numbers: &[u16], node: u16) -> usize
     output_place(numbers, outputs(numbers)) + 4 * node as usize
 }
 
+#[tactic(auto, unfolding(crate::specs::Numbers::expected_length))]
 pub(crate) fn expected_length(numbers: &[u16]) -> usize
     ensures { result ≡ expected_length numbers.now }
 {
@@ -62,12 +65,14 @@ pub(crate) fn expected_length(numbers: &[u16]) -> usize
 }
 
 // The node that a register becomes, and the one that an output shows.
+#[tactic(auto, unfolding(crate::specs::Numbers::register_node))]
 pub(crate) fn register_node(numbers: &[u16], register: u16) -> u16
     ensures { result ≡ register_node numbers.now register }
 {
     at(numbers, register_place(numbers, register) + 2)
 }
 
+#[tactic(auto, unfolding(crate::specs::Numbers::output_node))]
 pub(crate) fn output_node(numbers: &[u16], output: u16) -> u16
     ensures { result ≡ output_node numbers.now output }
 {
@@ -75,6 +80,7 @@ pub(crate) fn output_node(numbers: &[u16], output: u16) -> u16
 }
 
 // A node from its kind and operands; above 12 there is no kind.
+#[tactic(auto, using(std::proofs::lemmas::Bool::Decides::nat_tests), unfolding(crate::specs::Numbers::decode))]
 fn decoded(kind: u16, a: u16, b: u16, c: u16) -> Option<Node>
     ensures { result ≡ decode kind a b c }
 {
@@ -104,6 +110,7 @@ fn decoded(kind: u16, a: u16, b: u16, c: u16) -> Option<Node>
     }
 }
 
+#[tactic(auto, unfolding(crate::specs::Numbers::node_in))]
 pub(crate) fn node(numbers: &[u16], n: u16) -> Option<Node>
     ensures { result ≡ node_in numbers.now n }
 {

@@ -6,6 +6,7 @@ pub mod counts;
 pub mod encoded;
 mod faults;
 mod layout;
+pub mod lookup;
 pub mod node;
 mod pass;
 pub mod refusal;

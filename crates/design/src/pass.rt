@@ -7,6 +7,7 @@ ghost use Rattle.design.specs.Summaries.{Summarizes, Known};
 ghost use Rattle.design.specs.Encodings.{list_of, design_of};
 
 use crate::encoded::Encoded;
+use crate::lookup::at;
 use crate::node::Node;
 use crate::summary::Summary;
 
@@ -15,12 +16,6 @@ const BLANK: Summary = Summary {
     formed: false,
     cells: 0,
 };
-
-pub(crate) fn at(known: &[Summary], n: u16) -> Summary
-    ensures { (z : Summary) → n < length known.now → result ≡ slice_index_or known.now n z }
-{
-    known.get(n as usize).copied().unwrap_or(BLANK)
-}
 
 fn summarize(design: Encoded<'_>, known: &[Summary], node: Node) -> Summary
     ensures { (e : ℕ → Expr) (n : ℕ) → n ≤ length known.now → names_below n node ≡ true →
@@ -39,23 +34,29 @@ fn summarize(design: Encoded<'_>, known: &[Summary], node: Node) -> Summary
         },
         Node::Constant { width, .. } => Summary::constant(width),
         Node::And(a, b) | Node::Or(a, b) | Node::Xor(a, b) => Summary::bitwise(
-            at(known, a),
-            at(known, b),
+            at(known, a as usize),
+            at(known, b as usize),
         ),
-        Node::Not(a) => Summary::not(at(known, a)),
-        Node::Add(a, b) => Summary::add(at(known, a), at(known, b)),
-        Node::Less(a, b) | Node::Equal(a, b) => Summary::comparison(at(known, a), at(known, b)),
+        Node::Not(a) => Summary::not(at(known, a as usize)),
+        Node::Add(a, b) => Summary::add(at(known, a as usize), at(known, b as usize)),
+        Node::Less(a, b) | Node::Equal(a, b) => Summary::comparison(
+            at(known, a as usize),
+            at(known, b as usize),
+        ),
         Node::Mux { choice, one, zero } => Summary::mux(
-            at(known, choice),
-            at(known, one),
-            at(known, zero),
+            at(known, choice as usize),
+            at(known, one as usize),
+            at(known, zero as usize),
         ),
-        Node::Slice { low, width, of } => Summary::slice(low, width, at(known, of)),
-        Node::Concat { high, low } => Summary::concat(at(known, high), at(known, low)),
+        Node::Slice { low, width, of } => Summary::slice(low, width, at(known, of as usize)),
+        Node::Concat { high, low } => Summary::concat(
+            at(known, high as usize),
+            at(known, low as usize),
+        ),
     }
 }
 
-// The summaries of all nodes.
+// The summaries of all nodes. Each comes from those before it, so they are written by their places: `iter_mut` would lend all of them.
 pub(crate) fn pass(design: Encoded<'_>) -> [Summary; 1024]
     ensures { Known (design_of design.entry) (node_expr (list_of design.entry)) (nodes_of (list_of design.entry)) result }
 {

@@ -3,7 +3,7 @@ ghost use Rattle.std.specs.Prelude.{◌≡◌, ◌+◌, ◌*◌, ◌≤◌, min,
 
 pub(crate) const CAP: u32 = 65536;
 
-#[derive(Clone, Copy)]
+#[derive(Clone, Copy, Default)]
 pub(crate) struct Summary {
     pub(crate) width: u16,
     pub(crate) formed: bool,

@@ -1,14 +1,14 @@
 -- One tick: the table gives what the outputs show and what the registers become.
 use Rattle.std.proofs.Common.{◌≡◌, ℕ, ◌<◌, ◌≤◌, min, true, List, get_or, None, refl, ap, ◌∙◌}
 use Rattle.std.proofs.lemmas.Bool.{lt-ltb}
-use Rattle.design.specs.Designs.{Word, Words, register, Design, Sound, width, well_formed, number, word, eval, output_width, output_sound}
+use Rattle.design.specs.Designs.{Words, register, Design, Sound, width, well_formed, number, word, eval, output_width, output_sound}
 use Rattle.design.specs.Numbers.{nodes_of, register_node, output_node, node_expr, design_in, reading_refusal, soundness_refusal}
 use Rattle.design.proofs.Reading.{readable}
 use Rattle.design.proofs.Sound.{sound_from_none}
 use Rattle.design_laws.specs.Laws.{Alike}
 use Rattle.design_laws.proofs.Arithmetic.{same_number, word_of_number}
 use Rattle.design_laws.proofs.Locality.{next_of, widths_suffice}
-use Rattle.player.specs.Plays.{words_in, Holds, Shows, Ticks}
+use Rattle.player.specs.Plays.{words_in, Lists, Holds, Shows, Ticks}
 use Rattle.player.specs.Tables.{Tabled, Taken}
 use Rattle.player.proofs.Passing.{width_fits, cut}
 
@@ -17,13 +17,12 @@ register_fits : (d : Design) → Sound d → (r : ℕ) → r < d.registers → d
 unfolding width well_formed
 register_fits d s r l = width_fits d s (register r) (lt-ltb r d.registers l)
 
--- the word that a register begins with
-pub first_word : (d : Design) → Sound d → (r v m i x : ℕ) → r < d.registers → v ≡ d.register_width r → m ≡ min v 64 → word i ≡ d.initial r →
-    x ≡ number m (word i) → x ≡ number (d.register_width r) (d.initial r)
-first_word d s r v m i x l e f g is =
-    is
-    ∙ ap (λ (n : ℕ). number n (word i)) (cut v m (d.register_width r) f e (register_fits d s r l))
-    ∙ ap (λ (a : Word). number (d.register_width r) a) g
+-- the words that the registers begin with
+pub first_words : (d : Design) → Sound d → (xs : List ℕ) → Lists d.registers (λ r. number (min (d.register_width r) 64) (d.initial r)) xs → Holds d d.initial xs
+first_words d s xs h = record {
+  long = h.long;
+  right = λ r l. h.right r l ∙ ap (λ (n : ℕ). number n (d.initial r)) (cut (d.register_width r) (min (d.register_width r) 64) (d.register_width r) refl refl (register_fits d s r l));
+}
 
 -- numbers that are held stand for the words that they are the numbers of
 held_alike : (d : Design) (regs : Words) (held : List ℕ) → Holds d regs held → Alike d.registers d.register_width (words_in held) regs

@@ -8,4 +8,5 @@ mod nodes;
 mod operations;
 pub mod player;
 pub mod stream;
+mod width;
 mod words;

@@ -7,7 +7,7 @@ ghost use Rattle.player.specs.Players.{played, held};
 ghost use Rattle.player.specs.Plays.{Holds, Ticks, Plays, Refuses};
 
 use crate::fault::Fault;
-use crate::nodes::table;
+use crate::nodes::Tick;
 use crate::words;
 use design::analysis::Analysis;
 use design::encoded::Encoded;
@@ -48,7 +48,12 @@ impl<'a> Player<'a> {
             Ticks (played self.old) inputs.now (held self.old) (held self.new) shown.items)
             (λ fault. (fault ≡ Memory) × (held self.new ≡ held self.old)) }
     {
-        let known = table(&self.analysis, inputs, self.words.as_slice());
+        let known = Tick {
+            analysis: &self.analysis,
+            inputs,
+            registers: self.words.as_slice(),
+        }
+        .table();
         let shown = words::shown(self.heap, self.analysis.design, &known)?;
         words::advance(self.analysis.design, &known, self.words.as_mut_slice());
         Ok(shown)

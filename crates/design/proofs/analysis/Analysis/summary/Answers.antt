@@ -10,4 +10,4 @@ returns c = λ l.
     let self = c.args.self.now in
     let xs = list_of self.design in
     let h = readable xs (not_refused xs self.design.readable) in
-    summary_read (design_of self.design) (node_expr xs) (nodes_of xs) self.known c.args.n c.at.result self.summarized (omega (arith, h.few, self.long)) c.at.ensures l
+    summary_read (design_of self.design) (node_expr xs) (nodes_of xs) self.known c.args.n c.at.result self.summarized (omega (arith, h.few, self.long)) c.at.ensures.inside l
