@@ -1,6 +1,9 @@
 use Rattle.std.proofs.Common.{arith}
-use Rattle.netlist.proofs.Laying.{first_call, second_call, third_call, build_call, done}
+use Rattle.netlist.proofs.Laying.{asked_small, first_call, second_call, third_call, build_call, done}
 use Rattle.netlist.proofs.lowering.+lay.Goals as goal
+
+pub has-requires : goal.has-requires
+has-requires t c = asked_small _ _ _ _ c.requires c.in-Some.is
 
 pub lay-requires : goal.lay-requires
 lay-requires t c =
@@ -20,6 +23,9 @@ lay-requires-3 t c =
 pub build-bus-requires : goal.build-bus-requires
 build-bus-requires t c =
     build_call _ _ _ _ _ _ c.requires c.in-Some.is c.node-found.ensures.is c.operands_of-operands.ensures _ c.lay.ensures _ c.lay-2.ensures _ c.lay-3.ensures
+
+pub note-requires : goal.note-requires
+note-requires t c = asked_small _ _ _ _ c.requires c.in-Some.is
 
 pub returns : goal.returns
 returns t c =
