@@ -109,8 +109,9 @@ impl Work {
         ensures old { (m : ℕ) → m < at → outs_of self.new m ≡ outs_of self.old m }
         ensures new { (k : ℕ) → k < width → outs_of self.new (at + k) ≡ first + k }
     {
-        for k in 0..width {
-            self.outputs[(at + k) as usize] = first + k;
+        let places = &mut self.outputs[at as usize..(at + width) as usize];
+        for (k, place) in places.iter_mut().enumerate() {
+            *place = first + k as u16;
         }
     }
 }
