@@ -1,12 +1,14 @@
 -- Rows of cells that the code writes and adds.
-use Rattle.std.proofs.Common.{◌≡◌, ℕ, ◌+◌, ◌-◌, ◌<◌, ◌≤◌, min, cond, ltb, ◌≢◌, length, set, refl, ap, ◌∙◌, ⊎_elim, arith, get_or-set_other, get_or-set_same}
-use Rattle.std.proofs.lemmas.Bool.{cases_eq, le-ltb}
+use Rattle.std.proofs.Common.{◌≡◌, ℕ, ◌+◌, ◌-◌, ◌<◌, ◌≤◌, min, cond, ltb, List, length, get_or, refl, ap, ◌∙◌, arith}
+use Rattle.std.proofs.lemmas.Grind.{common_steps}
+use Rattle.std.proofs.lemmas.Bool.{le-ltb}
+use borrow.Rule.Slice.PartMut.{put_mid}
 use Rattle.netlist.specs.declared.parts.Net.{Net}
 use Rattle.netlist.specs.declared.parts.Net.TheVariants.{Zero, Cell}
 use Rattle.netlist.specs.declared.parts.Cell.{Cell as CellT}
 use Rattle.netlist.specs.declared.bus.Bus.{Bus}
 use Rattle.netlist.specs.declared.work.Work.{Work}
-use Rattle.netlist.specs.Building.{blank, gate, gate_row, chain_row}
+use Rattle.netlist.specs.Building.{blank, cell_at, Written, gate, gate_row, chain_row}
 use Rattle.netlist.specs.Rows.{net_of}
 use Rattle.netlist.specs.Works.{cells_of, bus_at, nets_at, SameNotes, Wrote, RowLaid, Compared, Summed}
 
@@ -16,26 +18,13 @@ same_notes w = record { buses = refl; outputs = refl }
 pub notes_trans : (w w₁ w₂ : Work) → SameNotes w w₁ → SameNotes w₁ w₂ → SameNotes w w₂
 notes_trans w w₁ w₂ a b = record { buses = b.buses ∙ a.buses; outputs = b.outputs ∙ a.outputs }
 
-pub wrote_none : (w : Work) (at : ℕ) (new : ℕ → CellT) → Wrote w w at 0 new
-wrote_none w at new = record {
-  cells = record { below = λ c h. refl; above = λ c h. refl; written = λ k h. absurd (omega arith) };
-  count = refl;
-  notes = same_notes w;
-}
-
-pub wrote_more : (w w₁ : Work) (at k : ℕ) (new : ℕ → CellT) (cell : CellT) → at + k < length w₁.cells → Wrote w w₁ at k new → cell ≡ new k →
-    Wrote w (record { cells = set w₁.cells (at + k) cell; count = w₁.count; buses = w₁.buses; outputs = w₁.outputs }) at (k + 1) new
-wrote_more w w₁ at k new cell room a is = record {
-  cells = record {
-    below = λ c h. let ne : c ≢ at + k = omega arith in get_or-set_other w₁.cells (at + k) c cell blank ne ∙ a.cells.below c h;
-    above = λ c h. let ne : c ≢ at + k = omega arith in get_or-set_other w₁.cells (at + k) c cell blank ne ∙ a.cells.above c (omega arith);
-    written = λ j h. ⊎_elim
-        (λ (q : j ≡ k). rw q (get_or-set_same w₁.cells (at + k) cell blank room ∙ is))
-        (λ (q : j ≡ k → ⊥). let ne : at + j ≢ at + k = omega arith in get_or-set_other w₁.cells (at + k) (at + j) cell blank ne ∙ a.cells.written j (omega arith))
-        (cases_eq j k);
-  };
-  count = a.count;
-  notes = record { buses = a.notes.buses; outputs = a.notes.outputs };
+-- cells that are written over a part of a list
+pub over : (xs ys : List CellT) (at m n : ℕ) (new : ℕ → CellT) → n ≡ m → at + m ≤ length xs → length ys ≡ m → ((k : ℕ) → k < m → get_or ys k blank ≡ new k) →
+    Written (cell_at xs) (cell_at (put_mid at n xs ys)) at m new
+over xs ys at m n new e room long is = record {
+  below = λ c h. let p : get_or (put_mid at n xs ys) c blank ≡ get_or xs c blank = grind (arith, common_steps) in p;
+  above = λ c h. let p : get_or (put_mid at n xs ys) c blank ≡ get_or xs c blank = grind (arith, common_steps) in p;
+  written = λ k h. let p : get_or (put_mid at n xs ys) (at + k) blank ≡ get_or ys k blank = grind (arith, common_steps) in p ∙ is k h;
 }
 
 -- a row that is written behind the last cell is added

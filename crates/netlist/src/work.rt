@@ -61,20 +61,6 @@ impl Work {
         self.buses[n as usize] = Some(bus);
     }
 
-    // Writes a cell.
-    fn put(&mut self, at: u16, cell: Cell)
-        requires { at < 1024 }
-        ensures room { length self.old.cells ≡ 1024 }
-        ensures after { self.new ≡ record {
-          cells = slice_set self.old.cells at cell;
-          count = self.old.count;
-          buses = self.old.buses;
-          outputs = self.old.outputs;
-        } }
-    {
-        self.cells[at as usize] = cell;
-    }
-
     // Writes a row of so many cells, those that a function gives for the bits, from `at` on.
     pub(crate) fn write<F: Fn(u16) -> Cell>(&mut self, at: u16, width: u16, cell: F)
         requires callable { F.IsAlwaysCallable cell }
@@ -82,8 +68,9 @@ impl Work {
         ensures count { self.new.count ≡ self.old.count }
         ensures wrote { (row : ℕ → CellT) → ((k : ℕ) (c : CellT) → k < width → F.post cell k c → c ≡ row k) → Wrote self.old self.new at width row }
     {
-        for k in 0..width {
-            self.put(at + k, cell(k));
+        let places = &mut self.cells[at as usize..(at + width) as usize];
+        for (k, place) in places.iter_mut().enumerate() {
+            *place = cell(k as u16);
         }
     }
 
