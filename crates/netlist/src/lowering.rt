@@ -96,7 +96,7 @@ fn lay_outputs(analysis: &Analysis<'_>, work: &mut Work)
         let node = design.output(o);
         lay(analysis, work, Some(node));
         let width = analysis.width(node);
-        let first = work.count as u16;
+        let first = work.cells.len() as u16;
         work.unary(PASS, node, width);
         work.show(start, first, width);
         start += width;
@@ -114,7 +114,7 @@ fn whole(analysis: &Analysis<'_>) -> Netlist
     );
     lay_registers(analysis, &mut work);
     lay_outputs(analysis, &mut work);
-    Netlist::new(work.cells, work.count, work.outputs)
+    Netlist::new(work.cells, work.outputs)
 }
 
 // The counts of a sound design that takes no more cells than any fabric has.

@@ -2,7 +2,7 @@
 ghost use Rattle.std.specs.Prelude.{◌≡◌, ◌+◌, ◌<◌, ◌≤◌};
 ghost use Rattle.netlist.specs.Building.{gate_row, chain_row};
 ghost use Rattle.netlist.specs.Rows.{net_of};
-ghost use Rattle.netlist.specs.Works.{nets_at, zeros, RowAsks, RowLaid, Compared, Summed};
+ghost use Rattle.netlist.specs.Works.{count_of, nets_at, zeros, RowAsks, RowLaid, Compared, Summed};
 
 use crate::bus::Bus;
 use crate::parts::{Cell, Net};
@@ -86,9 +86,9 @@ impl Work {
     // One cell a bit, of two nodes and of the cell of the bit below.
     fn chain(&mut self, first: u16, table: u16, a: u16, b: u16, width: u16) -> Bus
         requires { RowAsks self.old a b width }
-        ensures { RowLaid self.old self.new width (chain_row first table (nets_at self.old a) (nets_at self.old b) self.old.count) result }
+        ensures { RowLaid self.old self.new width (chain_row first table (nets_at self.old a) (nets_at self.old b) (count_of self.old)) result }
     {
-        let start = self.count as u16;
+        let start = self.cells.len() as u16;
         let a = self.bus(a);
         let b = self.bus(b);
         self.push(
@@ -101,7 +101,7 @@ impl Work {
     pub(crate) fn compare(&mut self, first: u16, table: u16, a: u16, b: u16, width: u16) -> Bus
         requires row { RowAsks self.old a b width }
         requires some { 1 ≤ width }
-        ensures { Compared self.old self.new width (chain_row first table (nets_at self.old a) (nets_at self.old b) self.old.count) result }
+        ensures { Compared self.old self.new width (chain_row first table (nets_at self.old a) (nets_at self.old b) (count_of self.old)) result }
     {
         let states = self.chain(first, table, a, b, width);
         states.slice(width - 1)
@@ -110,7 +110,7 @@ impl Work {
     // A chain of carries from the low bit up, and then a sum for each bit, of the two bits and the carry into them.
     pub(crate) fn add(&mut self, a: u16, b: u16, width: u16) -> Bus
         requires row { RowAsks self.old a b width }
-        requires room { self.old.count + width + width ≤ 1024 }
+        requires room { count_of self.old + width + width ≤ 1024 }
         ensures { Summed self.old self.new a b width result }
     {
         let carries = self.chain(CARRY, CARRY, a, b, width);

@@ -31,7 +31,7 @@ show-requires c =
     let m = output_wide _ c.requires.lowerable _ _ _ h c.output-node.ensures.node c.width-width.ensures in
     record {
       places = output_places _ c.requires.lowerable _ _ _ _ _ h c.output-node.ensures.node c.loop-o.invariant.0 c.lay.ensures m _ c.loop-o.invariant.1;
-      cells = (output_row _ c.requires.lowerable _ _ _ _ _ h c.output-node.ensures.node c.loop-o.invariant.0 c.lay.ensures m).room;
+      cells = omega (arith, (output_row _ c.requires.lowerable _ _ _ _ _ h c.output-node.ensures.node c.loop-o.invariant.0 c.lay.ensures m).room, c.len-first.ensures.value);
     }
 
 pub overflow_add-start : goal.overflow_add-start
@@ -45,8 +45,8 @@ loop-o-preserved c =
     let h : c.loop-o.o < outputs_of c.args.analysis.now.design.numbers.now = omega (arith, c.loop-o-test.true, c.outputs-o-end.ensures) in
     let m = output_wide _ c.requires.lowerable _ _ _ h c.output-node.ensures.node c.width-width.ensures in
     let s = c.show.ensures in (
-      output_step _ c.requires.lowerable _ _ _ _ _ h c.output-node.ensures.node c.loop-o.invariant.0 c.lay.ensures m _ _ _ _ c.loop-o.invariant.1 c.unary.ensures
-          s.cells s.count s.buses s.old s.new,
+      output_step _ c.requires.lowerable _ _ _ _ _ h c.output-node.ensures.node c.loop-o.invariant.0 c.lay.ensures m _ _ _ _ _ c.loop-o.invariant.1 c.unary.ensures
+          c.len-first.ensures.value s.cells s.buses s.old s.new,
       omega (arith, c.loop-o.invariant.1, m, total_more c.loop-o.o (output_width (design_in c.args.analysis.now.design.numbers.now))),
     )
 

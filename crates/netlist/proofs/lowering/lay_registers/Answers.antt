@@ -1,7 +1,7 @@
 use Rattle.std.proofs.Common.{◌≡◌, ◌<◌, sym, arith, rules}
 use Rattle.design.specs.Numbers.{registers_of, design_in}
 use Rattle.netlist.proofs.Totals.{total_zero, total_more}
-use Rattle.netlist.proofs.Whole.{register_asks, register_place, register_small, register_step}
+use Rattle.netlist.proofs.Whole.{register_asks, register_place, register_room, register_small, register_step}
 use Rattle.netlist.proofs.lowering.lay_registers.Goals as goal
 
 pub loop-r-init : goal.loop-r-init
@@ -20,7 +20,7 @@ bus-next-requires c =
 pub write-requires : goal.write-requires
 write-requires c =
     let h : c.loop-r.r < registers_of c.args.analysis.now.design.numbers.now = omega (arith, c.loop-r-test.true, c.registers-r-end.ensures) in
-    record { callable = search rules; room = register_place _ c.requires.lowerable _ _ _ h c.loop-r.invariant.1 c.register-register.ensures.width }
+    record { callable = search rules; room = register_room _ c.requires.lowerable _ _ _ _ c.lay.ensures.built h c.loop-r.invariant.1 c.register-register.ensures.width }
 
 pub overflow_add-start : goal.overflow_add-start
 overflow_add-start c =
