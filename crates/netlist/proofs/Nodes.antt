@@ -6,7 +6,6 @@ use Rattle.design.specs.declared.node.Node.TheVariants.{Input, Register, Constan
 use Rattle.design.specs.Designs.{word, width, well_formed, total}
 use Rattle.design.specs.Numbers.{nodes_of, names_below, expr_of, design_in}
 use Rattle.design.proofs.Exprs.{operands_below, expr_at_node}
-use Rattle.design.proofs.Reading.{readable}
 use Rattle.netlist.proofs.Totals.{total_one}
 use Rattle.netlist.specs.declared.parts.Net.TheVariants.{Cell}
 use Rattle.netlist.specs.declared.parts.Net.TheVariants.{Input as InputNet}
@@ -23,7 +22,6 @@ use Rattle.netlist.proofs.Working.{same_notes}
 -- an operand that is there, well-formed and laid out
 pub record Operand (xs : List ℕ) (w : Work) (a : ℕ) : Type 0 where
   pub there : a < nodes_of xs
-  pub small : a < 1024
   pub formed : well_formed (design_in xs) (expr_in xs a) ≡ true
   pub carries : CarriesWord (design_in xs) (cells_of w) (count_of w) (nets_at w a) (expr_in xs a)
   pub range : Range (width (design_in xs) (expr_in xs a))
@@ -40,9 +38,8 @@ module _ (xs : List ℕ) (w : Work) (n : ℕ) (node : Node) (k : BuildAsks xs w 
 
   operand : (a : ℕ) → a < n → well_formed (design_in xs) (expr_in xs a) ≡ true → is_laid w a ≡ true → Operand xs w a
   operand a h f l =
-      let r = readable xs k.lowerable.readable in
       let there : a < nodes_of xs = omega (arith, k.there) in
-      record { there = there; small = omega (arith, r.few); formed = f; carries = k.built.buses a there l; range = width_range (design_in xs) k.lowerable.sound (expr_in xs a) f }
+      record { there = there; formed = f; carries = k.built.buses a there l; range = width_range (design_in xs) k.lowerable.sound (expr_in xs a) f }
 
   -- what is laid out as the node's expression is the node's
   gives : (w₁ : Work) (c : ℕ) (bus : Bus) → Laid (design_in xs) (cells_of w) (count_of w) (cells_of w₁) c (net_of bus) (expr_of (expr_in xs) node) → count_of w₁ ≡ c →
@@ -64,8 +61,8 @@ pair xs w n node k a b l f la lb =
     record { a_ok = operand xs w n node k a (ltb-true a n p.0) q.0 la; b_ok = operand xs w n node k b (ltb-true b n p.1) q.1 lb; same = q.2 }
 
 -- the row of an operation on two operands
-pub pair_asks : (xs : List ℕ) (w : Work) (a b m : ℕ) → Pair xs w a b → m ≡ width (design_in xs) (expr_in xs a) → count_of w + width (design_in xs) (expr_in xs a) ≤ 1024 → RowAsks w a b m
-pair_asks xs w a b m p e room = record { first = p.a_ok.small; second = p.b_ok.small; narrow = omega (arith, p.a_ok.range.high); room = omega arith }
+pub pair_asks : (xs : List ℕ) (w : Work) (a b m : ℕ) → Pair xs w a b → m ≡ width (design_in xs) (expr_in xs a) → count_of w + width (design_in xs) (expr_in xs a) ≤ 1024 → RowAsks w m
+pair_asks xs w a b m p e room = record { narrow = omega (arith, p.a_ok.range.high); room = omega arith }
 
 row_nets : (w : Work) (m : ℕ) (bus : Bus) → m ≤ 64 → ((k : ℕ) → k < 64 → net_of bus k ≡ Cell (count_of w + k)) → RowNets (count_of w) m (net_of bus)
 row_nets w m bus narrow nets k h = nets k (omega arith)
@@ -102,27 +99,27 @@ module _ (xs : List ℕ) (w : Work) (n : ℕ) where
   unfolding names_below well_formed expr_of
   equal_pair a b k = pair xs w n (Equal a b) k a b (names xs w n (Equal a b) k) (formed xs w n (Equal a b) k) k.first k.second
 
-  pub and_asks : (a b m : ℕ) (k : BuildAsks xs w n (And a b)) → m ≡ width (design_in xs) (expr_in xs a) → RowAsks w a b m
+  pub and_asks : (a b m : ℕ) (k : BuildAsks xs w n (And a b)) → m ≡ width (design_in xs) (expr_in xs a) → RowAsks w m
   unfolding own_cells
   and_asks a b m k e = pair_asks xs w a b m (and_pair a b k) e k.room
 
-  pub or_asks : (a b m : ℕ) (k : BuildAsks xs w n (Or a b)) → m ≡ width (design_in xs) (expr_in xs a) → RowAsks w a b m
+  pub or_asks : (a b m : ℕ) (k : BuildAsks xs w n (Or a b)) → m ≡ width (design_in xs) (expr_in xs a) → RowAsks w m
   unfolding own_cells
   or_asks a b m k e = pair_asks xs w a b m (or_pair a b k) e k.room
 
-  pub xor_asks : (a b m : ℕ) (k : BuildAsks xs w n (Xor a b)) → m ≡ width (design_in xs) (expr_in xs a) → RowAsks w a b m
+  pub xor_asks : (a b m : ℕ) (k : BuildAsks xs w n (Xor a b)) → m ≡ width (design_in xs) (expr_in xs a) → RowAsks w m
   unfolding own_cells
   xor_asks a b m k e = pair_asks xs w a b m (xor_pair a b k) e k.room
 
-  pub add_asks : (a b m : ℕ) (k : BuildAsks xs w n (Add a b)) → m ≡ width (design_in xs) (expr_in xs a) → RowAsks w a b m
+  pub add_asks : (a b m : ℕ) (k : BuildAsks xs w n (Add a b)) → m ≡ width (design_in xs) (expr_in xs a) → RowAsks w m
   unfolding own_cells
   add_asks a b m k e = pair_asks xs w a b m (add_pair a b k) e (omega (arith, k.room))
 
-  pub less_asks : (a b m : ℕ) (k : BuildAsks xs w n (Less a b)) → m ≡ width (design_in xs) (expr_in xs a) → RowAsks w a b m
+  pub less_asks : (a b m : ℕ) (k : BuildAsks xs w n (Less a b)) → m ≡ width (design_in xs) (expr_in xs a) → RowAsks w m
   unfolding own_cells
   less_asks a b m k e = pair_asks xs w a b m (less_pair a b k) e k.room
 
-  pub equal_asks : (a b m : ℕ) (k : BuildAsks xs w n (Equal a b)) → m ≡ width (design_in xs) (expr_in xs a) → RowAsks w a b m
+  pub equal_asks : (a b m : ℕ) (k : BuildAsks xs w n (Equal a b)) → m ≡ width (design_in xs) (expr_in xs a) → RowAsks w m
   unfolding own_cells
   equal_asks a b m k e = pair_asks xs w a b m (equal_pair a b k) e k.room
 
@@ -134,9 +131,9 @@ module _ (xs : List ℕ) (w : Work) (n : ℕ) where
   unfolding names_below well_formed expr_of
   not_operand a k = operand xs w n (Not a) k a (ltb-true a n (names xs w n (Not a) k)) (formed xs w n (Not a) k) k.first
 
-  pub not_asks : (a m : ℕ) (k : BuildAsks xs w n (Not a)) → m ≡ width (design_in xs) (expr_in xs a) → RowAsks w a a m
+  pub not_asks : (a m : ℕ) (k : BuildAsks xs w n (Not a)) → m ≡ width (design_in xs) (expr_in xs a) → RowAsks w m
   unfolding own_cells
-  not_asks a m k e = let o = not_operand a k in record { first = o.small; second = o.small; narrow = omega (arith, o.range.high); room = omega (arith, k.room) }
+  not_asks a m k e = let o = not_operand a k in record { narrow = omega (arith, o.range.high); room = omega (arith, k.room) }
 
   -- a choice, and a pair
   pub record Choice (c a b : ℕ) : Type 0 where
@@ -151,7 +148,7 @@ module _ (xs : List ℕ) (w : Work) (n : ℕ) where
       let q = choice_width (design_in xs) (expr_in xs c) _ (formed xs w n (Mux c a b) k) in
       record { c_ok = operand xs w n (Mux c a b) k c (ltb-true c n p.0) q.0 k.first; single = q.1; both = pair xs w n (Mux c a b) k a b p.1 q.2 k.second k.third }
 
-  pub mux_asks : (c a b m : ℕ) (k : BuildAsks xs w n (Mux c a b)) → m ≡ width (design_in xs) (expr_in xs a) → RowAsks w a b m
+  pub mux_asks : (c a b m : ℕ) (k : BuildAsks xs w n (Mux c a b)) → m ≡ width (design_in xs) (expr_in xs a) → RowAsks w m
   unfolding own_cells
   mux_asks c a b m k e = pair_asks xs w a b m (mux_choice c a b k).both e k.room
 

@@ -18,7 +18,6 @@ use Rattle.netlist.specs.Lowerings.{expr_in, Lowerable, Built, LayAsks, LayGives
 use Rattle.netlist.proofs.Growing.{carries_more}
 use Rattle.netlist.proofs.Roots.{registers_begin, registers_step, outputs_begin, outputs_step}
 use Rattle.netlist.proofs.Finished.{plain_is_most, lowering}
-use Rattle.netlist.proofs.Laying.{node_small}
 use Rattle.netlist.proofs.Widths.{Range, width_range}
 use Rattle.netlist.proofs.Refusing.{small_none, small_says, words_none}
 
@@ -76,9 +75,6 @@ module _ (xs : List ℕ) (ok : Lowerable xs) where
   pub register_room : (w : Work) (r start m : ℕ) → Built xs w → r < registers_of xs → start ≡ total r (design_in xs).register_width → m ≡ (design_in xs).register_width r → start + m ≤ count_of w
   unfolding design_in register_bits
   register_room w r start m b h es em = omega (arith, b.low, total_one (design_in xs).register_width r (design_in xs).registers h)
-
-  pub register_small : (r n : ℕ) → r < registers_of xs → n ≡ register_node xs r → n < 1024
-  register_small r n h e = node_small xs n ok (omega (arith, read.registers r h))
 
   -- a register's next word is laid out, and its cells are written
   module _ (w w₁ w₂ : Work) (r m v : ℕ) (x : Bus) (there : r < registers_of xs) (a : RegistersIn xs w r) (g : LayGives xs w w₁ (Some (register_node xs r)))
@@ -154,10 +150,8 @@ module _ (xs : List ℕ) (ok : Lowerable xs) where
     unfolding output_width design_in
     output_range = width_range (design_in xs) ok.sound ((design_in xs).output o) (output_formed o there)
 
-    pub output_row : RowAsks w₁ n n m
-    output_row =
-        let s : n < 1024 = node_small xs n ok (omega (arith, read.outputs o there)) in
-        record { first = s; second = s; narrow = omega (arith, output_range.high); room = row_fits }
+    pub output_row : RowAsks w₁ m
+    output_row = record { narrow = omega (arith, output_range.high); room = row_fits }
 
     pub output_places : (start : ℕ) → start ≡ total o (output_width (design_in xs)) → start + m ≤ 1024
     unfolding design_in output_cells

@@ -54,10 +54,8 @@ pub record RowLaid (w w₁ : Work) (m : ℕ) (new : ℕ → CellT) (bus : Bus) :
   pub nets : (k : ℕ) → k < 64 → net_of bus k ≡ Cell (count_of w + k)
   pub notes : SameNotes w w₁
 
--- what a row of an operation on two nodes asks: the nodes are there, and so is room for its cells
-pub record RowAsks (w : Work) (a b m : ℕ) : Type 0 where
-  pub first : a < 1024
-  pub second : b < 1024
+-- what a row of so many cells asks: it is no longer than a word, and there is room for it
+pub record RowAsks (w : Work) (m : ℕ) : Type 0 where
   pub narrow : m ≤ 64
   pub room : count_of w + m ≤ 1024
 

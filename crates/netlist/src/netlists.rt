@@ -7,7 +7,7 @@ use crate::parts::Cell;
 use arrayvec::ArrayVec;
 
 // The cells, and for each output bit the cell that shows it.
-#[derive(Drop)]
+#[derive(Clone, Drop)]
 pub struct Netlist {
     cells: ArrayVec<Cell, 1024>,
     outputs: [u16; 1024],

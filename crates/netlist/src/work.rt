@@ -1,7 +1,7 @@
 // A netlist under construction.
 ghost use Rattle.std.specs.Prelude.{◌≡◌, ℕ, ◌+◌, ◌<◌, ◌≤◌, false, length, Some, slice_set};
 ghost use Rattle.netlist.specs.declared.parts.Cell.{Cell as CellT};
-ghost use Rattle.netlist.specs.Works.{count_of, is_laid, bus_at, outs_of, Wrote, RowLaid};
+ghost use Rattle.netlist.specs.Works.{count_of, noted, is_laid, bus_at, outs_of, Wrote, RowLaid};
 
 use crate::bus::Bus;
 use crate::parts::Cell;
@@ -32,20 +32,25 @@ impl Work {
         }
     }
 
+    // What is noted of node n: its nets, if it is laid out.
+    fn noted(&self, n: u16) -> Option<Bus>
+        ensures { result ≡ noted self.now n }
+    {
+        self.buses.get(n as usize).copied().flatten()
+    }
+
     // Whether node n is laid out.
     pub(crate) fn has(&self, n: u16) -> bool
-        requires { n < 1024 }
         ensures { result ≡ is_laid self.now n }
     {
-        self.buses[n as usize].is_some()
+        self.noted(n).is_some()
     }
 
     // The nets of node n, which is laid out.
     pub(crate) fn bus(&self, n: u16) -> Bus
-        requires { n < 1024 }
         ensures { result ≡ bus_at self.now n }
     {
-        self.buses[n as usize].unwrap_or(Bus::zero())
+        self.noted(n).unwrap_or(Bus::zero())
     }
 
     // Node n is laid out, and these are its nets.

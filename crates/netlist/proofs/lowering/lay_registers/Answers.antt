@@ -1,7 +1,7 @@
 use Rattle.std.proofs.Common.{◌≡◌, ◌<◌, sym, arith, rules}
 use Rattle.design.specs.Numbers.{registers_of, design_in}
 use Rattle.netlist.proofs.Totals.{total_zero, total_more}
-use Rattle.netlist.proofs.Whole.{register_asks, register_place, register_room, register_small, register_step}
+use Rattle.netlist.proofs.Whole.{register_asks, register_place, register_room, register_step}
 use Rattle.netlist.proofs.lowering.lay_registers.Goals as goal
 
 pub loop-r-init : goal.loop-r-init
@@ -11,11 +11,6 @@ pub lay-requires : goal.lay-requires
 lay-requires c =
     let h : c.loop-r.r < registers_of c.args.analysis.now.design.numbers.now = omega (arith, c.loop-r-test.true, c.registers-r-end.ensures) in
     register_asks _ c.requires.lowerable _ _ _ h c.register-register.ensures.next c.loop-r.invariant.0
-
-pub bus-next-requires : goal.bus-next-requires
-bus-next-requires c =
-    let h : c.loop-r.r < registers_of c.args.analysis.now.design.numbers.now = omega (arith, c.loop-r-test.true, c.registers-r-end.ensures) in
-    register_small _ c.requires.lowerable _ _ h c.register-register.ensures.next
 
 pub write-requires : goal.write-requires
 write-requires c =

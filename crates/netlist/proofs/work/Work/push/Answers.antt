@@ -8,7 +8,7 @@ loop-k-init g c = (omega arith, same_notes _, λ row is. record { same = λ m h.
 pub loop-k-preserved : goal.loop-k-preserved
 loop-k-preserved g c =
     let i = c.loop-k.invariant in
-    (omega (arith, c.push.ensures.len, i.0), record { buses = i.1.buses; outputs = i.1.outputs }, λ row is. appended_more c.args.self.now.cells.items c.loop-k.self.cells.items _ c.loop-k.k row c.cell.result c.push.ensures.items i.0 (is c.loop-k.k c.cell.result (omega arith) c.cell.ensures) (i.2 row is))
+    (omega (arith, c.push.ensures.len, i.0), record { buses = i.1.buses; outputs = i.1.outputs }, λ row is. appended_more c.args.self.now.cells.items c.loop-k.self.cells.items c.push.new.self.items c.loop-k.k row c.cell.result c.push.ensures.items i.0 (is c.loop-k.k c.cell.result (omega arith) c.cell.ensures) (i.2 row is))
 
 pub returns : goal.returns
 returns g c = λ row is.
