@@ -6,7 +6,7 @@ ghost use Rattle.netlist.specs.Building.{cell_at};
 use crate::parts::Cell;
 use arrayvec::ArrayVec;
 
-// The cells, and for each output bit the cell that shows it.
+// The cells, and for each output bit the cell that shows it. It is cloned and not copied, since its vector is no `Copy`.
 #[derive(Clone, Drop)]
 pub struct Netlist {
     cells: ArrayVec<Cell, 1024>,

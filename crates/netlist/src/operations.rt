@@ -32,6 +32,8 @@ pub(crate) const SAME: u16 = 9;
 
 pub(crate) const EQUAL: u16 = 144;
 
+// Each row asks for room in the work, which no type of its operands alone can say. Two nodes and their width stay three parameters: a
+// struct of them would be put together at each call in `build` and taken apart in each row, which is no plainer.
 impl Work {
     // One gate a bit, of one node.
     pub(crate) fn unary(&mut self, table: u16, a: u16, width: u16) -> Bus
