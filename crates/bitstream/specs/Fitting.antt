@@ -1,15 +1,15 @@
 -- A netlist and a layout that fit each other.
 -- Only proofs use these definitions: no promise to a user names them.
-use Rattle.std.specs.Prelude.{◌≡◌, ℕ, ◌+◌, ◌<◌, cond, nat_lt, slice_index}
+use Rattle.std.specs.Prelude.{◌≡◌, ℕ, ◌+◌, ◌<◌, slice_index}
 use Rattle.netlist.specs.declared.parts.Net.TheVariants.{Input, Cell}
 use Rattle.netlist.specs.declared.parts.Cell.{Cell as CellT}
 use Rattle.netlist.specs.declared.netlists.Netlist.{Netlist as NetlistT}
-use Rattle.netlist.specs.Building.{blank, cell_at, input_of}
+use Rattle.netlist.specs.Building.{cell_at, input_of}
 use Rattle.route.specs.declared.plain.Plain.{Plain}
 
 -- the netlist's cell that stands at the fabric's cell c, or one that shows 0
 abbrev pub standing : NetlistT → ℕ → CellT
-standing n c = cond (nat_lt c n.count) (cell_at n.cells c) blank
+standing n c = cell_at n.cells.items c
 
 -- the cells' inputs are there
 abbrev pub NetsExist : NetlistT → Plain → Type 0

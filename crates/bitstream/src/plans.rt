@@ -21,7 +21,7 @@ pub(crate) struct Request<'a> {
 }
 
 // A netlist, the plain layout for it, and how many pins the design has: those of the input bits, then those of the output bits.
-#[derive(Clone, Copy)]
+#[derive(Drop)]
 pub(crate) struct Plan {
     pub netlist: Netlist,
     pub routing: Plain,

@@ -7,7 +7,7 @@ use Rattle.std.proofs.lemmas.Bool.{eq-eqb, ne_eqb, true≢false}
 use Rattle.design.specs.declared.node.Node.{Node}
 use Rattle.design.specs.declared.refusal.Refusal.TheVariants.{NotYet}
 use Rattle.design.specs.Numbers.{nodes_of, node_in, first_failing, design_in}
-use Rattle.design.proofs.First.{first_none, none_first, first_found}
+use Rattle.design.proofs.First.{first_none, none_first, first_from_find}
 use Rattle.netlist.specs.NotYet.{kind_landed, node_landed, input_single, register_single, wide, lowering_refusal}
 
 at_node : (o : Option Node) (node : Node) → o ≡ Some node → kind_landed node ≡ (elim o [ None ↦ false | Some node ↦ kind_landed node ])
@@ -33,14 +33,14 @@ pub register_fails : (xs : List ℕ) (r : ℕ) → ((design_in xs).register_widt
 unfolding register_single design_in
 register_fails xs r h = ne_eqb _ 1 h
 
--- what an iterator over the numbers below n finds
+-- what `find` over the range to n answers, of a test that is known of the numbers below n only
 pub first_by : (test : ℕ → Bool) (n m : ℕ) (r : Option ℕ) → m ≡ n →
     MatchOption r ((k : ℕ) → 0 ≤ k → k < m → k < n → test k ≡ true)
     (λ i. (0 ≤ i) × (i < m) × (i < n → test i ≡ false) × ((k : ℕ) → 0 ≤ k → k < i → k < n → test k ≡ true)) → r ≡ first_failing test n
-first_by test n m None e h = sym (none_first test n (λ k l. h k (omega arith) (omega arith) l))
+first_by test n m None e h = first_from_find test n m None e (λ k z l. h k z l (omega arith))
 first_by test n m (Some i) e h =
     let below : i < n = omega (arith, h.1) in
-    sym (first_found test i n (none_first test i (λ k l. h.3 k (omega arith) l (omega arith))) (h.2 below) below)
+    first_from_find test n m (Some i) e (h.0, h.1, h.2 below, λ k z l. h.3 k z l (omega arith))
 
 fails_at : (test : ℕ → Bool) (n k : ℕ) (o : Option ℕ) → first_failing test n ≡ o → k < n → test k ≡ false → true ≡ is_some o
 fails_at test n k None e h f = absurd (true≢false (sym (first_none test n e k h) ∙ f))

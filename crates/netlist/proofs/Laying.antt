@@ -14,7 +14,7 @@ use Rattle.netlist.specs.declared.operands.Operands.{Operands}
 use Rattle.netlist.specs.declared.work.Work.{Work}
 use Rattle.netlist.specs.Building.{Cells, CarriesWord}
 use Rattle.netlist.specs.Rows.{no_bus, net_of}
-use Rattle.netlist.specs.Works.{cells_of, nets_at, is_laid}
+use Rattle.netlist.specs.Works.{count_of, cells_of, nets_at, is_laid}
 use Rattle.netlist.specs.Lowerings.{expr_in, operands_of, own_cells, Lowerable, NodeOk, cells_for, NodeLaid, height, LayAsks, LayGives, BuildAsks, BuildGives}
 use Rattle.netlist.proofs.Growing.{grows_refl, grows_trans, grows_word}
 use Rattle.netlist.proofs.Steps.{choice_width, slice_width}
@@ -23,7 +23,7 @@ use Rattle.netlist.proofs.Steps.{choice_width, slice_width}
 pub gives_same : (xs : List ℕ) (w : Work) (o : Option ℕ) → LayAsks xs w o → NodeLaid w o → LayGives xs w w o
 gives_same xs w o a l = record {
   built = a.built;
-  grows = grows_refl (design_in xs) (cells_of w) w.count;
+  grows = grows_refl (design_in xs) (cells_of w) (count_of w);
   kept = λ m h. h;
   laid = l;
   few = omega arith;
@@ -151,7 +151,7 @@ module _ (xs : List ℕ) (w : Work) (n : ℕ) (node : Node) (a : LayAsks xs w (S
         -- the node's cells are added, and its nets are noted
         module _ (w₄ : Work) (bus : Bus) (b : BuildGives xs w₃ w₄ n node bus) (many : n < length w₄.buses) where
           after : Work
-          after = record { cells = w₄.cells; count = w₄.count; buses = set w₄.buses n (Some bus); outputs = w₄.outputs }
+          after = record { cells = w₄.cells; buses = set w₄.buses n (Some bus); outputs = w₄.outputs }
 
           still_laid : (m : ℕ) → is_laid w₃ m ≡ true → is_laid after m ≡ true
           unfolding after
@@ -172,20 +172,20 @@ module _ (xs : List ℕ) (w : Work) (n : ℕ) (node : Node) (a : LayAsks xs w (S
           unfolding after
           nets_new = ap (λ (o : Option Bus). net_of (unwrap_or o no_bus)) (get_or-set_same w₄.buses n (Some bus) None many)
 
-          carried : (m : ℕ) → m < nodes_of xs → is_laid after m ≡ true → (m ≡ n) ⊎ (m ≡ n → ⊥) → CarriesWord (design_in xs) (cells_of after) after.count (nets_at after m) (expr_in xs m)
+          carried : (m : ℕ) → m < nodes_of xs → is_laid after m ≡ true → (m ≡ n) ⊎ (m ≡ n → ⊥) → CarriesWord (design_in xs) (cells_of after) (count_of after) (nets_at after m) (expr_in xs m)
           unfolding after
           carried m h l (inl q) =
-              let here : CarriesWord (design_in xs) (cells_of w₄) w₄.count (nets_at after n) (expr_in xs n) = word_as (design_in xs) (cells_of w₄) w₄.count (net_of bus) (nets_at after n) (expr_in xs n) nets_new b.laid.carries in
+              let here : CarriesWord (design_in xs) (cells_of w₄) (count_of w₄) (nets_at after n) (expr_in xs n) = word_as (design_in xs) (cells_of w₄) (count_of w₄) (net_of bus) (nets_at after n) (expr_in xs n) nets_new b.laid.carries in
               rw q here
-          carried m h l (inr q) = word_as (design_in xs) (cells_of w₄) w₄.count (nets_at w₃ m) (nets_at after m) (expr_in xs m) (nets_now m q) (grows_word (design_in xs) (cells_of w₃) (cells_of w₄) w₃.count w₄.count (nets_at w₃ m) (expr_in xs m) b.laid.grows (g₃.built.buses m h (was_laid m q l)))
+          carried m h l (inr q) = word_as (design_in xs) (cells_of w₄) (count_of w₄) (nets_at w₃ m) (nets_at after m) (expr_in xs m) (nets_now m q) (grows_word (design_in xs) (cells_of w₃) (cells_of w₄) (count_of w₃) (count_of w₄) (nets_at w₃ m) (expr_in xs m) b.laid.grows (g₃.built.buses m h (was_laid m q l)))
 
-          pub noted : LayGives xs w (record { cells = w₄.cells; count = w₄.count; buses = set w₄.buses n (Some bus); outputs = w₄.outputs }) (Some n)
+          pub noted : LayGives xs w (record { cells = w₄.cells; buses = set w₄.buses n (Some bus); outputs = w₄.outputs }) (Some n)
           unfolding after
           noted = record {
             built = record { low = omega (arith, g₃.built.low, b.laid.grows.extends.more); buses = λ m h l. carried m h l (cases_eq m n) };
-            grows = grows_trans (design_in xs) (cells_of w) (cells_of w₁) (cells_of w₄) w.count w₁.count w₄.count g₁.grows
-                (grows_trans (design_in xs) (cells_of w₁) (cells_of w₂) (cells_of w₄) w₁.count w₂.count w₄.count g₂.grows
-                (grows_trans (design_in xs) (cells_of w₂) (cells_of w₃) (cells_of w₄) w₂.count w₃.count w₄.count g₃.grows b.laid.grows));
+            grows = grows_trans (design_in xs) (cells_of w) (cells_of w₁) (cells_of w₄) (count_of w) (count_of w₁) (count_of w₄) g₁.grows
+                (grows_trans (design_in xs) (cells_of w₁) (cells_of w₂) (cells_of w₄) (count_of w₁) (count_of w₂) (count_of w₄) g₂.grows
+                (grows_trans (design_in xs) (cells_of w₂) (cells_of w₃) (cells_of w₄) (count_of w₂) (count_of w₃) (count_of w₄) g₃.grows b.laid.grows));
             kept = λ m h. still_laid m (g₃.kept m (g₂.kept m (g₁.kept m h)));
             laid = ap (λ (o : Option Bus). is_some o) (get_or-set_same w₄.buses n (Some bus) None many);
             few = omega (arith, all, g₁.few, g₂.few, g₃.few, b.few);
@@ -228,7 +228,7 @@ module _ (xs : List ℕ) (w : Work) (o : Option ℕ) (n : ℕ) (node : Node) (op
         build_call = build_asks xs w n node asked is_node w₁ laid₁ w₂ laid₂ w₃ laid₃
 
         pub done : (w₄ w₅ : Work) (bus : Bus) → BuildGives xs w₃ w₄ n node bus → length w₄.buses ≡ 1024 →
-            w₅ ≡ record { cells = w₄.cells; count = w₄.count; buses = set w₄.buses n (Some bus); outputs = w₄.outputs } → LayGives xs w w₅ o
+            w₅ ≡ record { cells = w₄.cells; buses = set w₄.buses n (Some bus); outputs = w₄.outputs } → LayGives xs w w₅ o
         done w₄ w₅ bus b long e₅ = rw (e₅, some) (noted xs w n node asked is_node w₁ laid₁ w₂ laid₂ w₃ laid₃ w₄ bus b (omega (arith, within, long)))
 
 pub known_call : (xs : List ℕ) (w : Work) (o : Option ℕ) (n : ℕ) → LayAsks xs w o → o ≡ Some n → is_laid w n ≡ true → LayGives xs w w o

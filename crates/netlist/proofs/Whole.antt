@@ -6,34 +6,35 @@ use Rattle.design.specs.Numbers.{nodes_of, registers_of, outputs_of, register_no
 use Rattle.design.proofs.Reading.{Readable, readable}
 use Rattle.design.proofs.Sound.{sound_from_none}
 use Rattle.netlist.proofs.Totals.{total_zero, total_more, total_one, total_below}
+use Rattle.arrayvec.specs.ArrayVec.{ArrayVec, array_vec_len}
+use Rattle.netlist.specs.declared.parts.Cell.{Cell as CellT}
 use Rattle.netlist.specs.declared.bus.Bus.{Bus}
 use Rattle.netlist.specs.declared.work.Work.{Work}
 use Rattle.netlist.specs.declared.netlists.Netlist.{Netlist as NetlistT}
 use Rattle.netlist.specs.Building.{cell_at, register_bits, CarriesWord, Extends, Laid, gate_row, register_row, RegistersAt, OutputsAt, registers_most, outputs_most, Lowering}
 use Rattle.netlist.specs.Rows.{net_of}
-use Rattle.netlist.specs.Works.{cells_of, bus_at, nets_at, is_laid, outs_of, zeros, Wrote, RowLaid, RowAsks}
+use Rattle.netlist.specs.Works.{count_of, cells_of, bus_at, nets_at, is_laid, outs_of, zeros, Wrote, RowLaid, RowAsks}
 use Rattle.netlist.specs.Lowerings.{expr_in, Lowerable, Built, LayAsks, LayGives, RegistersIn, OutputsIn, netlist_of, small_refusal, words_refusal}
 use Rattle.netlist.proofs.Growing.{carries_more}
 use Rattle.netlist.proofs.Roots.{registers_begin, registers_step, outputs_begin, outputs_step}
 use Rattle.netlist.proofs.Finished.{plain_is_most, lowering}
-use Rattle.netlist.proofs.Laying.{node_small}
 use Rattle.netlist.proofs.Widths.{Range, width_range}
 use Rattle.netlist.proofs.Refusing.{small_none, small_says, words_none}
 
 -- nodes that are laid out stay so while cells are added or registers written, and nothing is noted
-built_more : (xs : List ℕ) (w w₁ : Work) → Extends (register_bits (design_in xs)) (cells_of w) w.count (cells_of w₁) w₁.count →
+built_more : (xs : List ℕ) (w w₁ : Work) → Extends (register_bits (design_in xs)) (cells_of w) (count_of w) (cells_of w₁) (count_of w₁) →
     w₁.buses ≡ w.buses → Built xs w → Built xs w₁
 built_more xs w w₁ ext eb b = record {
   low = omega (arith, b.low, ext.more);
   buses = λ m h l.
       let was : is_laid w m ≡ true = ap (λ bs. is_some (get_or bs m None)) (sym eb) ∙ l in
       let c = b.buses m h was in
-      λ k u. rw eb (carries_more (design_in xs) (cells_of w) (cells_of w₁) w.count w₁.count (nets_at w m k) _ ext (c k u));
+      λ k u. rw eb (carries_more (design_in xs) (cells_of w) (cells_of w₁) (count_of w) (count_of w₁) (nets_at w m k) _ ext (c k u));
 }
 
 -- a node that is laid out
 laid_node : (xs : List ℕ) (w w₁ : Work) (n : ℕ) → n < nodes_of xs → LayGives xs w w₁ (Some n) →
-    Laid (design_in xs) (cells_of w) w.count (cells_of w₁) w₁.count (nets_at w₁ n) (expr_in xs n)
+    Laid (design_in xs) (cells_of w) (count_of w) (cells_of w₁) (count_of w₁) (nets_at w₁ n) (expr_in xs n)
 laid_node xs w w₁ n h g = record { grows = g.grows; carries = g.built.buses n h g.laid }
 
 module _ (xs : List ℕ) (ok : Lowerable xs) where
@@ -71,27 +72,28 @@ module _ (xs : List ℕ) (ok : Lowerable xs) where
   unfolding design_in register_bits
   register_place r start m h es em = omega (arith, register_bits_small, total_one (design_in xs).register_width r (design_in xs).registers h)
 
-  pub register_small : (r n : ℕ) → r < registers_of xs → n ≡ register_node xs r → n < 1024
-  register_small r n h e = node_small xs n ok (omega (arith, read.registers r h))
+  pub register_room : (w : Work) (r start m : ℕ) → Built xs w → r < registers_of xs → start ≡ total r (design_in xs).register_width → m ≡ (design_in xs).register_width r → start + m ≤ count_of w
+  unfolding design_in register_bits
+  register_room w r start m b h es em = omega (arith, b.low, total_one (design_in xs).register_width r (design_in xs).registers h)
 
   -- a register's next word is laid out, and its cells are written
   module _ (w w₁ w₂ : Work) (r m v : ℕ) (x : Bus) (there : r < registers_of xs) (a : RegistersIn xs w r) (g : LayGives xs w w₁ (Some (register_node xs r)))
       (em : m ≡ (design_in xs).register_width r) (ex : x ≡ bus_at w₁ (register_node xs r)) (ev : word v ≡ (design_in xs).initial r)
       (wr : Wrote w₁ w₂ (total r (design_in xs).register_width) m (register_row (net_of x) (word v))) where
-    next_laid : Laid (design_in xs) (cells_of w) w.count (cells_of w₁) w₁.count (net_of x) ((design_in xs).next r)
+    next_laid : Laid (design_in xs) (cells_of w) (count_of w) (cells_of w₁) (count_of w₁) (net_of x) ((design_in xs).next r)
     unfolding design_in
     next_laid = rw ex (laid_node xs w w₁ (register_node xs r) (read.registers r there) g)
 
-    gates_stay : Extends (register_bits (design_in xs)) (cells_of w₁) w₁.count (cells_of w₂) w₂.count
+    gates_stay : Extends (register_bits (design_in xs)) (cells_of w₁) (count_of w₁) (cells_of w₂) (count_of w₂)
     unfolding register_bits design_in
     gates_stay = record {
       more = omega (arith, wr.count);
       same = λ c low high. wr.cells.above c (omega (arith, total_one (design_in xs).register_width r (design_in xs).registers there));
     }
 
-    at_step : RegistersAt (design_in xs) (cells_of w₂) w₁.count (r + 1)
+    at_step : RegistersAt (design_in xs) (cells_of w₂) (count_of w₁) (r + 1)
     unfolding design_in
-    at_step = registers_step (design_in xs) (cells_of w) (cells_of w₁) (cells_of w₂) w.count w₁.count r (net_of x) there a.at next_laid (register_formed r there).1 (rw (em, ev) at wr.cells)
+    at_step = registers_step (design_in xs) (cells_of w) (cells_of w₁) (cells_of w₂) (count_of w) (count_of w₁) r (net_of x) there a.at next_laid (register_formed r there).1 (rw (em, ev) at wr.cells)
 
     register_done : RegistersIn xs w₂ (r + 1)
     unfolding design_in
@@ -112,7 +114,7 @@ module _ (xs : List ℕ) (ok : Lowerable xs) where
   pub outputs_none : (w : Work) → RegistersIn xs w (design_in xs).registers → OutputsIn xs w 0
   outputs_none w a = record {
     built = a.built;
-    at = outputs_begin (design_in xs) (cells_of w) w.count (outs_of w) a.at;
+    at = outputs_begin (design_in xs) (cells_of w) (count_of w) (outs_of w) a.at;
     few = omega (arith, a.few);
   }
 
@@ -140,18 +142,16 @@ module _ (xs : List ℕ) (ok : Lowerable xs) where
   output_wide o n m h e is = (rw e at is) (read.outputs o h) (output_formed o h)
 
   module _ (w w₁ : Work) (o n m : ℕ) (there : o < outputs_of xs) (e : n ≡ output_node xs o) (a : OutputsIn xs w o) (g : LayGives xs w w₁ (Some n)) (em : m ≡ output_width (design_in xs) o) where
-    row_fits : w₁.count + m ≤ 1024
+    row_fits : count_of w₁ + m ≤ 1024
     unfolding design_in
-    row_fits = let f : w₁.count ≤ w.count + cells (design_in xs) ((design_in xs).output o) = rw e at g.few in omega (arith, a.few, output_fits o there)
+    row_fits = let f : count_of w₁ ≤ count_of w + cells (design_in xs) ((design_in xs).output o) = rw e at g.few in omega (arith, a.few, output_fits o there)
 
     output_range : Range (output_width (design_in xs) o)
     unfolding output_width design_in
     output_range = width_range (design_in xs) ok.sound ((design_in xs).output o) (output_formed o there)
 
-    pub output_row : RowAsks w₁ n n m
-    output_row =
-        let s : n < 1024 = node_small xs n ok (omega (arith, read.outputs o there)) in
-        record { first = s; second = s; narrow = omega (arith, output_range.high); room = row_fits }
+    pub output_row : RowAsks w₁ m
+    output_row = record { narrow = omega (arith, output_range.high); room = row_fits }
 
     pub output_places : (start : ℕ) → start ≡ total o (output_width (design_in xs)) → start + m ≤ 1024
     unfolding design_in output_cells
@@ -164,62 +164,69 @@ module _ (xs : List ℕ) (ok : Lowerable xs) where
         )
 
     -- it is passed on to cells of its own, which are noted
-    module _ (w₂ w₃ : Work) (bus : Bus) (start : ℕ) (es : start ≡ total o (output_width (design_in xs))) (r : RowLaid w₁ w₂ m (gate_row 2 (nets_at w₁ n) zeros zeros) bus)
-        (ec : w₃.cells ≡ w₂.cells) (en : w₃.count ≡ w₂.count) (eb : w₃.buses ≡ w₂.buses)
-        (old : (k : ℕ) → k < start → outs_of w₃ k ≡ outs_of w₂ k) (new : (k : ℕ) → k < m → outs_of w₃ (start + k) ≡ w₁.count + k) where
-      output_laid : Laid (design_in xs) (cells_of w) w.count (cells_of w₁) w₁.count (nets_at w₁ n) ((design_in xs).output o)
+    module _ (w₂ w₃ : Work) (bus : Bus) (start first : ℕ) (es : start ≡ total o (output_width (design_in xs))) (r : RowLaid w₁ w₂ m (gate_row 2 (nets_at w₁ n) zeros zeros) bus)
+        (ef : first ≡ count_of w₁) (ec : w₃.cells ≡ w₂.cells) (eb : w₃.buses ≡ w₂.buses)
+        (old : (k : ℕ) → k < start → outs_of w₃ k ≡ outs_of w₂ k) (new : (k : ℕ) → k < m → outs_of w₃ (start + k) ≡ first + k) where
+      output_laid : Laid (design_in xs) (cells_of w) (count_of w) (cells_of w₁) (count_of w₁) (nets_at w₁ n) ((design_in xs).output o)
       unfolding design_in
       output_laid =
           let h : n < nodes_of xs = omega (arith, read.outputs o there) in
           let l = laid_node xs w w₁ n h g in
           record { grows = l.grows; carries = carried }
         where
-          carried : CarriesWord (design_in xs) (cells_of w₁) w₁.count (nets_at w₁ n) ((design_in xs).output o)
+          carried : CarriesWord (design_in xs) (cells_of w₁) (count_of w₁) (nets_at w₁ n) ((design_in xs).output o)
           carried = as_output (output_node xs o) e (g.built.buses n (omega (arith, read.outputs o there)) g.laid)
             where
-              as_output : (k : ℕ) → n ≡ k → CarriesWord (design_in xs) (cells_of w₁) w₁.count (nets_at w₁ n) (expr_in xs n) → CarriesWord (design_in xs) (cells_of w₁) w₁.count (nets_at w₁ n) (expr_in xs k)
+              as_output : (k : ℕ) → n ≡ k → CarriesWord (design_in xs) (cells_of w₁) (count_of w₁) (nets_at w₁ n) (expr_in xs n) → CarriesWord (design_in xs) (cells_of w₁) (count_of w₁) (nets_at w₁ n) (expr_in xs k)
               as_output k q c = rw (← q) c
 
       outs_old : (k : ℕ) → k < total o (output_width (design_in xs)) → outs_of w₃ k ≡ outs_of w k
       outs_old k h = old k (omega arith) ∙ ap (λ l. get_or l k 0) (r.notes.outputs ∙ g.outputs)
 
-      at_output : OutputsAt (design_in xs) (cells_of w₂) (w₁.count + output_width (design_in xs) o) (outs_of w₃) (o + 1)
-      at_output = outputs_step (design_in xs) (cells_of w) (cells_of w₁) (cells_of w₂) w.count w₁.count o (outs_of w) (outs_of w₃) (nets_at w₁ n) zeros zeros a.at output_laid
-          (rw em at r.cells) (λ k h. refl) (λ k h. refl) outs_old (rw (es, em) at new)
+      at_output : OutputsAt (design_in xs) (cells_of w₂) (count_of w₁ + output_width (design_in xs) o) (outs_of w₃) (o + 1)
+      at_output = outputs_step (design_in xs) (cells_of w) (cells_of w₁) (cells_of w₂) (count_of w) (count_of w₁) o (outs_of w) (outs_of w₃) (nets_at w₁ n) zeros zeros a.at output_laid
+          (rw em at r.cells) (λ k h. refl) (λ k h. refl) outs_old (rw (es, em, ef) at new)
 
-      grown : Extends (register_bits (design_in xs)) (cells_of w₁) w₁.count (cells_of w₃) w₃.count
-      grown = record { more = omega (arith, en, r.count); same = λ c low high. ap (λ cs. cell_at cs c) ec ∙ r.cells.same c high }
+      en : count_of w₃ ≡ count_of w₂
+      en = ap (λ (v : ArrayVec CellT). array_vec_len v) ec
+
+      grown : Extends (register_bits (design_in xs)) (cells_of w₁) (count_of w₁) (cells_of w₃) (count_of w₃)
+      grown = record { more = omega (arith, en, r.count); same = λ c low high. ap (λ (v : ArrayVec CellT). cell_at v.items c) ec ∙ r.cells.same c high }
 
       pub output_step : OutputsIn xs w₃ (o + 1)
       unfolding output_cells design_in
       output_step = record {
         built = built_more xs w₁ w₃ grown (eb ∙ r.notes.buses) g.built;
-        at = rw (ec, en, r.count, em) at_output;
-        few = let f : w₁.count ≤ w.count + cells (design_in xs) ((design_in xs).output o) = rw e at g.few in
+        at = rw (ec, r.count, em) at_output;
+        few = let f : count_of w₁ ≤ count_of w + cells (design_in xs) ((design_in xs).output o) = rw e at g.few in
             omega (arith, a.few, en, r.count, em, total_more o (output_cells (design_in xs)));
       }
 
 -- 3. The whole.
 
-pub registers_none : (xs : List ℕ) (w : Work) (k : ℕ) → Lowerable xs → k ≡ min 65535 (total (registers_of xs) (design_in xs).register_width) → w.count ≡ k →
+pub registers_fit : (xs : List ℕ) (k : ℕ) → Lowerable xs → k ≡ min 65535 (total (registers_of xs) (design_in xs).register_width) → k ≤ 1024
+unfolding design_in register_bits
+registers_fit xs k ok e = omega (arith, register_bits_small xs ok)
+
+pub registers_none : (xs : List ℕ) (w : Work) (k : ℕ) → Lowerable xs → k ≡ min 65535 (total (registers_of xs) (design_in xs).register_width) → count_of w ≡ k →
     ((m : ℕ) → is_laid w m ≡ false) → RegistersIn xs w 0
 unfolding design_in register_bits
 registers_none xs w k ok ek e none =
     let d = design_in xs in
     let s : register_bits d ≤ 1024 = register_bits_small xs ok in
-    let c : w.count ≡ register_bits d = omega arith in
+    let c : count_of w ≡ register_bits d = omega arith in
     record {
       built = record { low = omega arith; buses = λ m h l. absurd (both_ways (is_laid w m) (none m) l) };
       at = rw c (registers_begin d (cells_of w));
       few = omega (arith, total_zero (λ i. cells d (d.next i)));
     }
 
-pub whole_small : (xs : List ℕ) (w : Work) → Lowerable xs → OutputsIn xs w (design_in xs).outputs → w.count ≤ 1024
+pub whole_small : (xs : List ℕ) (w : Work) → Lowerable xs → OutputsIn xs w (design_in xs).outputs → count_of w ≤ 1024
 whole_small xs w ok a = omega (arith, a.few, small xs ok)
 
-pub finished : (xs : List ℕ) (w : Work) (n : NetlistT) → OutputsIn xs w (design_in xs).outputs → n.cells ≡ w.cells → n.count ≡ w.count → n.outputs ≡ w.outputs →
+pub finished : (xs : List ℕ) (w : Work) (n : NetlistT) → OutputsIn xs w (design_in xs).outputs → n.cells ≡ w.cells → n.outputs ≡ w.outputs →
     Lowering (design_in xs) (netlist_of n)
-finished xs w n a ec en eo = rw (ec, en, eo) (lowering (design_in xs) (cells_of w) w.count (outs_of w) a.at a.few)
+finished xs w n a ec eo = rw (ec, eo) (lowering (design_in xs) (cells_of w) (count_of w) (outs_of w) a.at a.few)
 
 -- 4. Refusals.
 

@@ -1,14 +1,18 @@
 -- Rows of cells that the code writes and adds.
-use Rattle.std.proofs.Common.{◌≡◌, ℕ, ◌+◌, ◌-◌, ◌<◌, ◌≤◌, min, cond, ltb, ◌≢◌, length, set, refl, ap, ◌∙◌, ⊎_elim, arith, get_or-set_other, get_or-set_same}
-use Rattle.std.proofs.lemmas.Bool.{cases_eq, le-ltb}
+use Rattle.std.specs.List.{refill}
+use Rattle.arrayvec.specs.ArrayVec.{ArrayVec, array_vec_len, with_items}
+use Rattle.std.proofs.Common.{[], ◌∷◌, ◌++◌, below_more, ◌≡◌, ℕ, ◌+◌, ◌-◌, ◌<◌, ◌≤◌, min, cond, ltb, List, length, get_or, refl, ap, ◌∙◌, arith}
+use Rattle.std.proofs.lemmas.Grind.{common_steps}
+use Rattle.std.proofs.lemmas.Bool.{le-ltb}
+use borrow.Rule.Slice.PartMut.{put_mid}
 use Rattle.netlist.specs.declared.parts.Net.{Net}
 use Rattle.netlist.specs.declared.parts.Net.TheVariants.{Zero, Cell}
 use Rattle.netlist.specs.declared.parts.Cell.{Cell as CellT}
 use Rattle.netlist.specs.declared.bus.Bus.{Bus}
 use Rattle.netlist.specs.declared.work.Work.{Work}
-use Rattle.netlist.specs.Building.{blank, gate, gate_row, chain_row}
+use Rattle.netlist.specs.Building.{blank, cell_at, Appended, Written, gate, gate_row, chain_row}
 use Rattle.netlist.specs.Rows.{net_of}
-use Rattle.netlist.specs.Works.{cells_of, bus_at, nets_at, SameNotes, Wrote, RowLaid, Compared, Summed}
+use Rattle.netlist.specs.Works.{count_of, cells_of, bus_at, nets_at, SameNotes, RowLaid, Compared, Summed}
 
 pub same_notes : (w : Work) → SameNotes w w
 same_notes w = record { buses = refl; outputs = refl }
@@ -16,41 +20,38 @@ same_notes w = record { buses = refl; outputs = refl }
 pub notes_trans : (w w₁ w₂ : Work) → SameNotes w w₁ → SameNotes w₁ w₂ → SameNotes w w₂
 notes_trans w w₁ w₂ a b = record { buses = b.buses ∙ a.buses; outputs = b.outputs ∙ a.outputs }
 
-pub wrote_none : (w : Work) (at : ℕ) (new : ℕ → CellT) → Wrote w w at 0 new
-wrote_none w at new = record {
-  cells = record { below = λ c h. refl; above = λ c h. refl; written = λ k h. absurd (omega arith) };
-  count = refl;
-  notes = same_notes w;
+-- cells that are written over a part of a list
+pub over : (xs ys : List CellT) (at m n : ℕ) (new : ℕ → CellT) → n ≡ m → at + m ≤ length xs → length ys ≡ m → ((k : ℕ) → k < m → get_or ys k blank ≡ new k) →
+    Written (cell_at xs) (cell_at (put_mid at n xs ys)) at m new
+over xs ys at m n new e room long is = record {
+  below = λ c h. let p : get_or (put_mid at n xs ys) c blank ≡ get_or xs c blank = grind (arith, common_steps) in p;
+  above = λ c h. let p : get_or (put_mid at n xs ys) c blank ≡ get_or xs c blank = grind (arith, common_steps) in p;
+  written = λ k h. let p : get_or (put_mid at n xs ys) (at + k) blank ≡ get_or ys k blank = grind (arith, common_steps) in p ∙ is k h;
 }
 
-pub wrote_more : (w w₁ : Work) (at k : ℕ) (new : ℕ → CellT) (cell : CellT) → at + k < length w₁.cells → Wrote w w₁ at k new → cell ≡ new k →
-    Wrote w (record { cells = set w₁.cells (at + k) cell; count = w₁.count; buses = w₁.buses; outputs = w₁.outputs }) at (k + 1) new
-wrote_more w w₁ at k new cell room a is = record {
-  cells = record {
-    below = λ c h. let ne : c ≢ at + k = omega arith in get_or-set_other w₁.cells (at + k) c cell blank ne ∙ a.cells.below c h;
-    above = λ c h. let ne : c ≢ at + k = omega arith in get_or-set_other w₁.cells (at + k) c cell blank ne ∙ a.cells.above c (omega arith);
-    written = λ j h. ⊎_elim
-        (λ (q : j ≡ k). rw q (get_or-set_same w₁.cells (at + k) cell blank room ∙ is))
-        (λ (q : j ≡ k → ⊥). let ne : at + j ≢ at + k = omega arith in get_or-set_other w₁.cells (at + k) (at + j) cell blank ne ∙ a.cells.written j (omega arith))
-        (cases_eq j k);
-  };
-  count = a.count;
-  notes = record { buses = a.notes.buses; outputs = a.notes.outputs };
-}
+-- the same, where the list is that of a vector
+pub over_items : (v : ArrayVec CellT) (xs ys : List CellT) (at m n : ℕ) (new : ℕ → CellT) → xs ≡ v.items → n ≡ m → at + m ≤ length v.items → length ys ≡ m →
+    ((k : ℕ) → k < m → get_or ys k blank ≡ new k) →
+    (array_vec_len (with_items v (put_mid at n xs ys)) ≡ array_vec_len v) × Written (cell_at v.items) (cell_at (with_items v (put_mid at n xs ys)).items) at m new
+over_items v xs ys at m n new ex e room long is =
+    let l : length (put_mid at n v.items ys) ≡ length v.items = grind (arith, common_steps) in
+    let same : refill (length v.items) v.items (put_mid at n v.items ys) ≡ put_mid at n v.items ys = grind (arith, common_steps) in
+    rw (ex, same) (l, over v.items ys at m n new e room long is)
 
--- a row that is written behind the last cell is added
-pub pushed : (w w₁ w₂ : Work) (start m : ℕ) (new : ℕ → CellT) (bus : Bus) → start ≡ w.count → w.count + m ≤ 1024 → Wrote w w₁ start m new →
-    w₂ ≡ record { cells = w₁.cells; count = w₁.count + m; buses = w₁.buses; outputs = w₁.outputs } →
-    ((k : ℕ) → k < 64 → net_of bus k ≡ Cell (min 65535 (start + k))) → RowLaid w w₂ m new bus
-pushed w w₁ w₂ start m new bus e room wr e₂ nets = rw e₂ (record {
-  cells = record {
-    same = λ c h. wr.cells.below c (omega arith);
-    added = λ k h. rw (← e) (wr.cells.written k h);
-  };
-  count = ap (λ c. c + m) wr.count;
-  nets = λ k h. nets k h ∙ ap Cell (let q : min 65535 (start + k) ≡ w.count + k = omega arith in q);
-  notes = record { buses = wr.notes.buses; outputs = wr.notes.outputs };
+-- one more cell behind the last
+pub appended_more : (xs ys zs : List CellT) (k : ℕ) (new : ℕ → CellT) (cell : CellT) → zs ≡ ys ++ cell ∷ [] → length ys ≡ length xs + k → cell ≡ new k →
+    Appended (cell_at xs) (length xs) (cell_at ys) k new → Appended (cell_at xs) (length xs) (cell_at zs) (k + 1) new
+appended_more xs ys zs k new cell e long is a = rw e (record {
+  same = λ c h. let p : get_or (ys ++ cell ∷ []) c blank ≡ get_or ys c blank = grind (arith, common_steps) in p ∙ a.same c h;
+  added = below_more _ _
+      (λ j h. let p : get_or (ys ++ cell ∷ []) (length xs + j) blank ≡ get_or ys (length xs + j) blank = grind (arith, common_steps) in p ∙ a.added j h)
+      (let p : get_or (ys ++ cell ∷ []) (length xs + k) blank ≡ cell = grind (arith, common_steps) in p ∙ is);
 })
+
+-- the nets of a row
+pub row_nets : (start m n : ℕ) (bus : Bus) → n ≡ start → start + m ≤ 1024 → ((k : ℕ) → k < 64 → net_of bus k ≡ Cell (min 65535 (n + k))) →
+    (k : ℕ) → k < 64 → net_of bus k ≡ Cell (start + k)
+row_nets start m n bus e few nets k h = nets k h ∙ ap Cell (let q : min 65535 (n + k) ≡ start + k = omega arith in q)
 
 -- the same row by another name
 pub row_as : (w w₁ : Work) (m : ℕ) (new new₁ : ℕ → CellT) (bus : Bus) → ((k : ℕ) → k < m → new k ≡ new₁ k) → RowLaid w w₁ m new bus → RowLaid w w₁ m new₁ bus
@@ -93,7 +94,7 @@ handed_high none carries into is k h =
     is (k + 1) h ∙ rw (le-ltb (k + 1) 1 l, e) refl
 
 pub summed : (w w₁ w₂ : Work) (a b m : ℕ) (x y none carries into bus : Bus) → m ≤ 64 →
-    RowLaid w w₁ m (chain_row 232 232 (nets_at w a) (nets_at w b) w.count) carries →
+    RowLaid w w₁ m (chain_row 232 232 (nets_at w a) (nets_at w b) (count_of w)) carries →
     ((k : ℕ) → k < 64 → net_of none k ≡ Zero) → ((k : ℕ) → k < 64 → net_of into k ≡ cond (ltb k 1) (net_of none k) (net_of carries (k - 1))) →
     x ≡ bus_at w₁ a → y ≡ bus_at w₁ b →
     RowLaid w₁ w₂ m (gate_row 150 (net_of x) (net_of y) (net_of into)) bus → Summed w w₂ a b m bus

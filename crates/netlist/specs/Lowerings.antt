@@ -17,7 +17,8 @@ use Rattle.netlist.specs.Netlists.{Netlist}
 use Rattle.netlist.specs.NotYet.{lowering_refusal}
 use Rattle.netlist.specs.Building.{cell_at, register_bits, netlist_in, CarriesWord, Grows, Laid, RegistersAt, OutputsAt, registers_most, outputs_most, Lowering}
 use Rattle.netlist.specs.Rows.{net_of}
-use Rattle.netlist.specs.Works.{cells_of, nets_at, is_laid, outs_of, SameNotes}
+use Rattle.arrayvec.specs.ArrayVec.{array_vec_len}
+use Rattle.netlist.specs.Works.{count_of, cells_of, nets_at, is_laid, outs_of, SameNotes}
 
 -- the expressions of the nodes
 abbrev pub expr_in : List ℕ → ℕ → Expr
@@ -64,8 +65,8 @@ pub record Lowerable (xs : List ℕ) : Type 0 where
 
 -- nodes that are laid out have nets that carry their words
 pub record Built (xs : List ℕ) (w : Work) : Type 0 where
-  pub low : register_bits (design_in xs) ≤ w.count
-  pub buses : (m : ℕ) → m < nodes_of xs → is_laid w m ≡ true → CarriesWord (design_in xs) (cells_of w) w.count (nets_at w m) (expr_in xs m)
+  pub low : register_bits (design_in xs) ≤ count_of w
+  pub buses : (m : ℕ) → m < nodes_of xs → is_laid w m ≡ true → CarriesWord (design_in xs) (cells_of w) (count_of w) (nets_at w m) (expr_in xs m)
 
 -- a node that is there and well-formed; none is fine too
 abbrev pub NodeOk : List ℕ → Option ℕ → Type 0
@@ -87,14 +88,14 @@ pub record LayAsks (xs : List ℕ) (w : Work) (o : Option ℕ) : Type 0 where
   pub lowerable : Lowerable xs
   pub built : Built xs w
   pub there : NodeOk xs o
-  pub room : w.count + cells_for xs o ≤ 1024
+  pub room : count_of w + cells_for xs o ≤ 1024
 
 pub record LayGives (xs : List ℕ) (w w₁ : Work) (o : Option ℕ) : Type 0 where
   pub built : Built xs w₁
-  pub grows : Grows (design_in xs) (cells_of w) w.count (cells_of w₁) w₁.count
+  pub grows : Grows (design_in xs) (cells_of w) (count_of w) (cells_of w₁) (count_of w₁)
   pub kept : (m : ℕ) → is_laid w m ≡ true → is_laid w₁ m ≡ true
   pub laid : NodeLaid w₁ o
-  pub few : w₁.count ≤ w.count + cells_for xs o
+  pub few : count_of w₁ ≤ count_of w + cells_for xs o
   pub outputs : w₁.outputs ≡ w.outputs
 
 -- what building a node asks, the nodes that it names being laid out, and what it gives
@@ -107,27 +108,27 @@ pub record BuildAsks (xs : List ℕ) (w : Work) (n : ℕ) (node : Node) : Type 0
   pub first : NodeLaid w (operands_of node).first
   pub second : NodeLaid w (operands_of node).second
   pub third : NodeLaid w (operands_of node).third
-  pub room : w.count + own_cells (design_in xs) (expr_in xs) node ≤ 1024
+  pub room : count_of w + own_cells (design_in xs) (expr_in xs) node ≤ 1024
 
 pub record BuildGives (xs : List ℕ) (w w₁ : Work) (n : ℕ) (node : Node) (bus : Bus) : Type 0 where
-  pub laid : Laid (design_in xs) (cells_of w) w.count (cells_of w₁) w₁.count (net_of bus) (expr_in xs n)
-  pub few : w₁.count ≤ w.count + own_cells (design_in xs) (expr_in xs) node
+  pub laid : Laid (design_in xs) (cells_of w) (count_of w) (cells_of w₁) (count_of w₁) (net_of bus) (expr_in xs n)
+  pub few : count_of w₁ ≤ count_of w + own_cells (design_in xs) (expr_in xs) node
   pub notes : SameNotes w w₁
 
 -- the registers below r are laid out, with no more cells than the plain layout takes for them; so are all registers and the outputs below o
 pub record RegistersIn (xs : List ℕ) (w : Work) (r : ℕ) : Type 0 where
   pub built : Built xs w
-  pub at : RegistersAt (design_in xs) (cells_of w) w.count r
-  pub few : w.count ≤ registers_most (design_in xs) r
+  pub at : RegistersAt (design_in xs) (cells_of w) (count_of w) r
+  pub few : count_of w ≤ registers_most (design_in xs) r
 
 pub record OutputsIn (xs : List ℕ) (w : Work) (o : ℕ) : Type 0 where
   pub built : Built xs w
-  pub at : OutputsAt (design_in xs) (cells_of w) w.count (outs_of w) o
-  pub few : w.count ≤ outputs_most (design_in xs) o
+  pub at : OutputsAt (design_in xs) (cells_of w) (count_of w) (outs_of w) o
+  pub few : count_of w ≤ outputs_most (design_in xs) o
 
 -- the netlist that the code's stands for
 abbrev pub netlist_of : NetlistT → Netlist
-netlist_of n = netlist_in (cell_at n.cells) n.count (λ m. slice_index n.outputs m)
+netlist_of n = netlist_in (cell_at n.cells.items) (array_vec_len n.cells) (λ m. slice_index n.outputs m)
 
 -- what a lowered design's netlist is: it computes what the design computes, and takes no more cells than the plain layout
 abbrev pub Lowered : Design → NetlistT → Type 0

@@ -63,12 +63,19 @@ fn lay(analysis: &Analysis<'_>, work: &mut Work, node: Option<u16>)
     work.note(n, bus);
 }
 
+// A design that can be lowered, with what is known of its nodes.
+#[derive(Drop)]
+struct Task<'a> {
+    analysis: Analysis<'a>,
+    ghost lowerable: { Lowerable (list_of analysis.design) },
+}
+
 // The cells of the registers, each with the net of the bit that it becomes.
-fn lay_registers(analysis: &Analysis<'_>, work: &mut Work)
-    requires lowerable { Lowerable (list_of analysis.now.design) }
-    requires begun { RegistersIn (list_of analysis.now.design) work.old 0 }
-    ensures { RegistersIn (list_of analysis.now.design) work.new (design_of analysis.now.design).registers }
+fn lay_registers(task: &Task<'_>, work: &mut Work)
+    requires { RegistersIn (list_of task.now.analysis.design) work.old 0 }
+    ensures { RegistersIn (list_of task.now.analysis.design) work.new (design_of task.now.analysis.design).registers }
 {
+    let analysis = &task.analysis;
     let design = analysis.design;
     let mut start: u16 = 0;
     for r in 0..design.registers() {
@@ -85,18 +92,18 @@ fn lay_registers(analysis: &Analysis<'_>, work: &mut Work)
 }
 
 // The cells of the outputs, each of which passes a bit on.
-fn lay_outputs(analysis: &Analysis<'_>, work: &mut Work)
-    requires lowerable { Lowerable (list_of analysis.now.design) }
-    requires begun { OutputsIn (list_of analysis.now.design) work.old 0 }
-    ensures { OutputsIn (list_of analysis.now.design) work.new (design_of analysis.now.design).outputs }
+fn lay_outputs(task: &Task<'_>, work: &mut Work)
+    requires { OutputsIn (list_of task.now.analysis.design) work.old 0 }
+    ensures { OutputsIn (list_of task.now.analysis.design) work.new (design_of task.now.analysis.design).outputs }
 {
+    let analysis = &task.analysis;
     let design = analysis.design;
     let mut start: u16 = 0;
     for o in 0..design.outputs() {
         let node = design.output(o);
         lay(analysis, work, Some(node));
         let width = analysis.width(node);
-        let first = work.count as u16;
+        let first = work.cells.len() as u16;
         work.unary(PASS, node, width);
         work.show(start, first, width);
         start += width;
@@ -104,17 +111,16 @@ fn lay_outputs(analysis: &Analysis<'_>, work: &mut Work)
 }
 
 // The netlist of a design that can be lowered.
-fn whole(analysis: &Analysis<'_>) -> Netlist
-    requires { Lowerable (list_of analysis.now.design) }
-    ensures { Lowering (design_of analysis.now.design) (netlist_of result) }
+fn whole(task: &Task<'_>) -> Netlist
+    ensures { Lowering (design_of task.now.analysis.design) (netlist_of result) }
 {
-    let design = analysis.design;
+    let design = task.analysis.design;
     let mut work = Work::new(
         bits_before(design.registers(), |r| design.register(r).width) as usize,
     );
-    lay_registers(analysis, &mut work);
-    lay_outputs(analysis, &mut work);
-    Netlist::new(work.cells, work.count, work.outputs)
+    lay_registers(task, &mut work);
+    lay_outputs(task, &mut work);
+    Netlist::new(work.cells, work.outputs)
 }
 
 // The counts of a sound design that takes no more cells than any fabric has.
@@ -140,7 +146,8 @@ pub fn lower(design: Encoded<'_>) -> Result<Netlist, Refusal>
 {
     small(design)?;
     landed(design)?;
-    Ok(whole(&Analysis::new(design)))
+    let analysis = Analysis::new(design);
+    Ok(whole(&Task { analysis }))
 }
 
 // The netlist of a design of words of up to 64 bits, or the first reason why there is none.
@@ -155,5 +162,6 @@ pub fn lower_words(design: Encoded<'_>) -> Result<Netlist, Refusal>
             needed: counts.tracks,
         });
     }
-    Ok(whole(&Analysis::new(design)))
+    let analysis = Analysis::new(design);
+    Ok(whole(&Task { analysis }))
 }

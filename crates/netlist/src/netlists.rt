@@ -1,46 +1,38 @@
 // A netlist that is laid out whole.
-ghost use Rattle.std.specs.Prelude.{◌≡◌, ◌<◌, ◌≤◌, if◌then◌else◌, nat_lt, slice_index};
-ghost use Rattle.netlist.specs.Building.{blank, cell_at};
+ghost use Rattle.std.specs.Prelude.{◌≡◌, ◌<◌, ◌≤◌, slice_index};
+ghost use Rattle.arrayvec.specs.ArrayVec.{array_vec_len};
+ghost use Rattle.netlist.specs.Building.{cell_at};
 
 use crate::parts::Cell;
+use arrayvec::ArrayVec;
 
-// The cells, and for each output bit the cell that shows it.
-#[derive(Clone, Copy)]
+// The cells, and for each output bit the cell that shows it. It is cloned and not copied, since its vector is no `Copy`.
+#[derive(Clone, Drop)]
 pub struct Netlist {
-    cells: [Cell; 1024],
-    count: usize,
+    cells: ArrayVec<Cell, 1024>,
     outputs: [u16; 1024],
-    ghost few: { count ≤ 1024 },
 }
 
 impl Netlist {
-    pub(crate) fn new(cells: [Cell; 1024], count: usize, outputs: [u16; 1024]) -> Netlist
-        requires { count ≤ 1024 }
-        ensures { (result.cells ≡ cells) × (result.count ≡ count) × (result.outputs ≡ outputs) }
+    pub(crate) fn new(cells: ArrayVec<Cell, 1024>, outputs: [u16; 1024]) -> Netlist
+        ensures { (result.cells ≡ cells) × (result.outputs ≡ outputs) }
     {
-        Netlist {
-            cells,
-            count,
-            outputs,
-        }
+        Netlist { cells, outputs }
     }
 
     // How many cells there are.
     pub fn count(&self) -> usize
-        ensures { result ≡ self.now.count }
+        ensures is { result ≡ array_vec_len self.now.cells }
+        ensures few { result ≤ 1024 }
     {
-        self.count
+        self.cells.len()
     }
 
     // Cell c; past the last one a cell that shows 0.
     pub fn cell(&self, c: usize) -> Cell
-        ensures { result ≡ (if nat_lt c self.now.count then cell_at self.now.cells c else blank) }
+        ensures { result ≡ cell_at self.now.cells.items c }
     {
-        if c < self.count {
-            self.cells[c]
-        } else {
-            Cell::blank()
-        }
+        self.cells.get(c).copied().unwrap_or(Cell::blank())
     }
 
     // The cell that shows output bit m, the bits counted over all outputs.

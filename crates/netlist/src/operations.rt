@@ -2,7 +2,7 @@
 ghost use Rattle.std.specs.Prelude.{◌≡◌, ◌+◌, ◌<◌, ◌≤◌};
 ghost use Rattle.netlist.specs.Building.{gate_row, chain_row};
 ghost use Rattle.netlist.specs.Rows.{net_of};
-ghost use Rattle.netlist.specs.Works.{nets_at, zeros, RowAsks, RowLaid, Compared, Summed};
+ghost use Rattle.netlist.specs.Works.{count_of, nets_at, zeros, RowAsks, RowLaid, Compared, Summed};
 
 use crate::bus::Bus;
 use crate::parts::{Cell, Net};
@@ -32,10 +32,12 @@ pub(crate) const SAME: u16 = 9;
 
 pub(crate) const EQUAL: u16 = 144;
 
+// Each row asks for room in the work, which no type of its operands alone can say. Two nodes and their width stay three parameters: a
+// struct of them would be put together at each call in `build` and taken apart in each row, which is no plainer.
 impl Work {
     // One gate a bit, of one node.
     pub(crate) fn unary(&mut self, table: u16, a: u16, width: u16) -> Bus
-        requires { RowAsks self.old a a width }
+        requires { RowAsks self.old width }
         ensures { RowLaid self.old self.new width (gate_row table (nets_at self.old a) zeros zeros) result }
     {
         let a = self.bus(a);
@@ -44,7 +46,7 @@ impl Work {
 
     // One gate a bit, of two nodes.
     pub(crate) fn binary(&mut self, table: u16, a: u16, b: u16, width: u16) -> Bus
-        requires { RowAsks self.old a b width }
+        requires { RowAsks self.old width }
         ensures { RowLaid self.old self.new width (gate_row table (nets_at self.old a) (nets_at self.old b) zeros) result }
     {
         let a = self.bus(a);
@@ -57,7 +59,7 @@ impl Work {
 
     // One gate a bit, of two nodes and a third bus.
     fn ternary(&mut self, table: u16, a: u16, b: u16, c: Bus, width: u16) -> Bus
-        requires { RowAsks self.old a b width }
+        requires { RowAsks self.old width }
         ensures { RowLaid self.old self.new width (gate_row table (nets_at self.old a) (nets_at self.old b) (net_of c)) result }
     {
         let a = self.bus(a);
@@ -75,8 +77,7 @@ impl Work {
 
     // The bits of a node where the low bit of another is 1, else those of a third.
     pub(crate) fn choose(&mut self, choice: u16, one: u16, zero: u16, width: u16) -> Bus
-        requires there { choice < 1024 }
-        requires row { RowAsks self.old one zero width }
+        requires { RowAsks self.old width }
         ensures { RowLaid self.old self.new width (gate_row 172 (nets_at self.old one) (nets_at self.old zero) (λ k. nets_at self.old choice 0)) result }
     {
         let all = Bus::all(self.bus(choice).net(0));
@@ -85,10 +86,10 @@ impl Work {
 
     // One cell a bit, of two nodes and of the cell of the bit below.
     fn chain(&mut self, first: u16, table: u16, a: u16, b: u16, width: u16) -> Bus
-        requires { RowAsks self.old a b width }
-        ensures { RowLaid self.old self.new width (chain_row first table (nets_at self.old a) (nets_at self.old b) self.old.count) result }
+        requires { RowAsks self.old width }
+        ensures { RowLaid self.old self.new width (chain_row first table (nets_at self.old a) (nets_at self.old b) (count_of self.old)) result }
     {
-        let start = self.count as u16;
+        let start = self.cells.len() as u16;
         let a = self.bus(a);
         let b = self.bus(b);
         self.push(
@@ -99,9 +100,9 @@ impl Work {
 
     // A chain from the low bit up, whose last cell has the result: so the higher bit decides.
     pub(crate) fn compare(&mut self, first: u16, table: u16, a: u16, b: u16, width: u16) -> Bus
-        requires row { RowAsks self.old a b width }
+        requires row { RowAsks self.old width }
         requires some { 1 ≤ width }
-        ensures { Compared self.old self.new width (chain_row first table (nets_at self.old a) (nets_at self.old b) self.old.count) result }
+        ensures { Compared self.old self.new width (chain_row first table (nets_at self.old a) (nets_at self.old b) (count_of self.old)) result }
     {
         let states = self.chain(first, table, a, b, width);
         states.slice(width - 1)
@@ -109,8 +110,8 @@ impl Work {
 
     // A chain of carries from the low bit up, and then a sum for each bit, of the two bits and the carry into them.
     pub(crate) fn add(&mut self, a: u16, b: u16, width: u16) -> Bus
-        requires row { RowAsks self.old a b width }
-        requires room { self.old.count + width + width ≤ 1024 }
+        requires row { RowAsks self.old width }
+        requires room { count_of self.old + width + width ≤ 1024 }
         ensures { Summed self.old self.new a b width result }
     {
         let carries = self.chain(CARRY, CARRY, a, b, width);

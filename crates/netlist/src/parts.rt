@@ -61,3 +61,11 @@ impl Cell {
         Cell::gate(0, Net::Zero, Net::Zero)
     }
 }
+
+impl Default for Cell {
+    ghost is_default = { λ cell. cell ≡ blank };
+
+    fn default() -> Self {
+        Cell::blank()
+    }
+}

@@ -1,18 +1,17 @@
 // A netlist under construction.
 ghost use Rattle.std.specs.Prelude.{◌≡◌, ℕ, ◌+◌, ◌<◌, ◌≤◌, false, length, Some, slice_set};
 ghost use Rattle.netlist.specs.declared.parts.Cell.{Cell as CellT};
-ghost use Rattle.netlist.specs.Works.{is_laid, bus_at, outs_of, Wrote, RowLaid};
+ghost use Rattle.netlist.specs.Works.{count_of, noted, is_laid, bus_at, outs_of, Wrote, RowLaid};
 
 use crate::bus::Bus;
 use crate::parts::Cell;
+use arrayvec::ArrayVec;
 
 // The cells so far, registers first; the nets of each node that is laid out; the cells of the output bits so far.
-// An array and a count, and no list that grows: the registers' cells come first and are written last, so such a list would be filled
-// with cells that say nothing, and written over.
+// The registers' cells show 0 till they are written, which is last.
 #[derive(Drop)]
 pub(crate) struct Work {
-    pub cells: [Cell; 1024],
-    pub count: usize,
+    pub cells: ArrayVec<Cell, 1024>,
     pub buses: [Option<Bus>; 1024],
     pub outputs: [u16; 1024],
 }
@@ -20,31 +19,38 @@ pub(crate) struct Work {
 impl Work {
     // Only the registers' cells are there, not written yet.
     pub(crate) fn new(register_bits: usize) -> Work
-        ensures count { result.count ≡ register_bits }
+        requires { register_bits ≤ 1024 }
+        ensures count { count_of result ≡ register_bits }
         ensures none { (k : ℕ) → is_laid result k ≡ false }
     {
+        let mut cells = ArrayVec::from([Cell::blank(); 1024]);
+        cells.truncate(register_bits);
         Work {
-            cells: [Cell::blank(); 1024],
-            count: register_bits,
+            cells,
             buses: [None; 1024],
             outputs: [0; 1024],
         }
     }
 
+    // What is noted of node n: its nets, if it is laid out.
+    fn noted(&self, n: u16) -> Option<Bus>
+        ensures { result ≡ noted self.now n }
+    {
+        self.buses.get(n as usize).copied().flatten()
+    }
+
     // Whether node n is laid out.
     pub(crate) fn has(&self, n: u16) -> bool
-        requires { n < 1024 }
         ensures { result ≡ is_laid self.now n }
     {
-        self.buses[n as usize].is_some()
+        self.noted(n).is_some()
     }
 
     // The nets of node n, which is laid out.
     pub(crate) fn bus(&self, n: u16) -> Bus
-        requires { n < 1024 }
         ensures { result ≡ bus_at self.now n }
     {
-        self.buses[n as usize].unwrap_or(Bus::zero())
+        self.noted(n).unwrap_or(Bus::zero())
     }
 
     // Node n is laid out, and these are its nets.
@@ -53,7 +59,6 @@ impl Work {
         ensures room { length self.old.buses ≡ 1024 }
         ensures after { self.new ≡ record {
           cells = self.old.cells;
-          count = self.old.count;
           buses = slice_set self.old.buses n (Some bus);
           outputs = self.old.outputs;
         } }
@@ -61,41 +66,29 @@ impl Work {
         self.buses[n as usize] = Some(bus);
     }
 
-    // Writes a cell.
-    fn put(&mut self, at: u16, cell: Cell)
-        requires { at < 1024 }
-        ensures room { length self.old.cells ≡ 1024 }
-        ensures after { self.new ≡ record {
-          cells = slice_set self.old.cells at cell;
-          count = self.old.count;
-          buses = self.old.buses;
-          outputs = self.old.outputs;
-        } }
-    {
-        self.cells[at as usize] = cell;
-    }
-
-    // Writes a row of so many cells, those that a function gives for the bits, from `at` on.
+    // Writes over a row of so many cells those that a function gives for the bits, from `at` on.
     pub(crate) fn write<F: Fn(u16) -> Cell>(&mut self, at: u16, width: u16, cell: F)
         requires callable { F.IsAlwaysCallable cell }
-        requires room { at + width ≤ 1024 }
-        ensures count { self.new.count ≡ self.old.count }
+        requires room { at + width ≤ count_of self.old }
+        ensures count { count_of self.new ≡ count_of self.old }
         ensures wrote { (row : ℕ → CellT) → ((k : ℕ) (c : CellT) → k < width → F.post cell k c → c ≡ row k) → Wrote self.old self.new at width row }
     {
-        for k in 0..width {
-            self.put(at + k, cell(k));
+        let places = &mut self.cells[at as usize..(at + width) as usize];
+        for (k, place) in places.iter_mut().enumerate() {
+            *place = cell(k as u16);
         }
     }
 
     // Adds such a row of cells, and gives their nets.
     pub(crate) fn push<F: Fn(u16) -> Cell>(&mut self, width: u16, cell: F) -> Bus
         requires callable { F.IsAlwaysCallable cell }
-        requires room { self.old.count + width ≤ 1024 }
+        requires room { count_of self.old + width ≤ 1024 }
         ensures { (row : ℕ → CellT) → ((k : ℕ) (c : CellT) → k < width → F.post cell k c → c ≡ row k) → RowLaid self.old self.new width row result }
     {
-        let start = self.count as u16;
-        self.write(start, width, cell);
-        self.count += width as usize;
+        let start = self.cells.len() as u16;
+        for k in 0..width {
+            self.cells.push(cell(k));
+        }
         Bus::cells(start)
     }
 
@@ -104,13 +97,13 @@ impl Work {
         requires places { at + width ≤ 1024 }
         requires cells { first + width ≤ 1024 }
         ensures cells { self.new.cells ≡ self.old.cells }
-        ensures count { self.new.count ≡ self.old.count }
         ensures buses { self.new.buses ≡ self.old.buses }
         ensures old { (m : ℕ) → m < at → outs_of self.new m ≡ outs_of self.old m }
         ensures new { (k : ℕ) → k < width → outs_of self.new (at + k) ≡ first + k }
     {
-        for k in 0..width {
-            self.outputs[(at + k) as usize] = first + k;
+        let places = &mut self.outputs[at as usize..(at + width) as usize];
+        for (k, place) in places.iter_mut().enumerate() {
+            *place = first + k as u16;
         }
     }
 }

@@ -1,5 +1,5 @@
 use Rattle.std.proofs.Common.{arith, rules}
-use Rattle.netlist.proofs.Nodes.{asks_as, gives_as, and_pair, and_asks, and_built, or_pair, or_asks, or_built, xor_pair, xor_asks, xor_built, add_pair, add_asks, add_built, less_pair, less_asks, less_built, equal_pair, equal_asks, equal_built, add_room, not_operand, not_asks, not_built, mux_choice, mux_asks, mux_built, constant_room, constant_built, slice_part, slice_built, concat_joined, concat_built, input_built, register_built}
+use Rattle.netlist.proofs.Nodes.{asks_as, gives_as, and_pair, and_asks, and_built, or_pair, or_asks, or_built, xor_pair, xor_asks, xor_built, add_pair, add_asks, add_built, less_pair, less_asks, less_built, equal_pair, equal_asks, equal_built, add_room, not_operand, not_asks, not_built, mux_choice, mux_asks, mux_built, constant_room, constant_built, slice_built, concat_joined, concat_built, input_built, register_built}
 use Rattle.netlist.proofs.lowering.build.Goals as goal
 
 pub binary-requires : goal.binary-requires
@@ -90,7 +90,7 @@ pub choose-requires : goal.choose-requires
 choose-requires c =
     let k = asks_as _ _ _ _ _ c.in-Mux.is c.requires in
     let p = mux_choice _ _ _ _ _ _ k in
-    record { there = p.c_ok.small; row = mux_asks _ _ _ _ _ _ _ k (c.width-in-Mux.ensures p.both.a_ok.there p.both.a_ok.formed) }
+    mux_asks _ _ _ _ _ _ _ k (c.width-in-Mux.ensures p.both.a_ok.there p.both.a_ok.formed)
 
 pub returns-in-Mux : goal.returns-in-Mux
 returns-in-Mux c =
@@ -108,25 +108,10 @@ returns-in-Constant c =
     let k = asks_as _ _ _ _ _ c.in-Constant.is c.requires in
     gives_as _ _ _ _ _ _ _ c.in-Constant.is (constant_built _ _ _ _ _ _ _ k (c.push.ensures _ (λ j x h p. search (rules, p))))
 
-pub bus-requires : goal.bus-requires
-bus-requires c =
-    let k = asks_as _ _ _ _ _ c.in-Slice.is c.requires in
-    (slice_part _ _ _ _ _ _ k).a_ok.small
-
 pub returns-in-Slice : goal.returns-in-Slice
 returns-in-Slice c =
     let k = asks_as _ _ _ _ _ c.in-Slice.is c.requires in
     gives_as _ _ _ _ _ _ _ c.in-Slice.is (slice_built _ _ _ _ _ _ _ _ k c.bus.ensures c.slice.ensures)
-
-pub bus-requires-in-Concat : goal.bus-requires-in-Concat
-bus-requires-in-Concat c =
-    let k = asks_as _ _ _ _ _ c.in-Concat.is c.requires in
-    (concat_joined _ _ _ _ _ k).a_ok.small
-
-pub bus-requires-in-Concat-2 : goal.bus-requires-in-Concat-2
-bus-requires-in-Concat-2 c =
-    let k = asks_as _ _ _ _ _ c.in-Concat.is c.requires in
-    (concat_joined _ _ _ _ _ k).b_ok.small
 
 pub returns-in-Concat : goal.returns-in-Concat
 returns-in-Concat c =

@@ -6,52 +6,52 @@ use Rattle.netlist.proofs.Whole.{output_asks, output_wide, output_row, output_pl
 use Rattle.netlist.proofs.lowering.lay_outputs.Goals as goal
 
 pub loop-o-init : goal.loop-o-init
-loop-o-init c = (c.requires.begun, sym (total_zero _))
+loop-o-init c = (c.requires, sym (total_zero _))
 
 pub lay-requires : goal.lay-requires
 lay-requires c =
-    let h : c.loop-o.o < outputs_of c.args.analysis.now.design.numbers.now = omega (arith, c.loop-o-test.true, c.outputs-o-end.ensures) in
-    output_asks _ c.requires.lowerable _ _ _ h c.output-node.ensures.node c.loop-o.invariant.0
+    let h : c.loop-o.o < outputs_of c.args.task.now.analysis.design.numbers.now = omega (arith, c.loop-o-test.true, c.outputs-o-end.ensures) in
+    output_asks _ c.args.task.now.lowerable _ _ _ h c.output-node.ensures.node c.loop-o.invariant.0
 
 pub overflow_cast-first : goal.overflow_cast-first
 overflow_cast-first c =
-    let h : c.loop-o.o < outputs_of c.args.analysis.now.design.numbers.now = omega (arith, c.loop-o-test.true, c.outputs-o-end.ensures) in
-    let m = output_wide _ c.requires.lowerable _ _ _ h c.output-node.ensures.node c.width-width.ensures in
-    omega (arith, (output_row _ c.requires.lowerable _ _ _ _ _ h c.output-node.ensures.node c.loop-o.invariant.0 c.lay.ensures m).room)
+    let h : c.loop-o.o < outputs_of c.args.task.now.analysis.design.numbers.now = omega (arith, c.loop-o-test.true, c.outputs-o-end.ensures) in
+    let m = output_wide _ c.args.task.now.lowerable _ _ _ h c.output-node.ensures.node c.width-width.ensures in
+    omega (arith, (output_row _ c.args.task.now.lowerable _ _ _ _ _ h c.output-node.ensures.node c.loop-o.invariant.0 c.lay.ensures m).room)
 
 pub unary-requires : goal.unary-requires
 unary-requires c =
-    let h : c.loop-o.o < outputs_of c.args.analysis.now.design.numbers.now = omega (arith, c.loop-o-test.true, c.outputs-o-end.ensures) in
-    let m = output_wide _ c.requires.lowerable _ _ _ h c.output-node.ensures.node c.width-width.ensures in
-    output_row _ c.requires.lowerable _ _ _ _ _ h c.output-node.ensures.node c.loop-o.invariant.0 c.lay.ensures m
+    let h : c.loop-o.o < outputs_of c.args.task.now.analysis.design.numbers.now = omega (arith, c.loop-o-test.true, c.outputs-o-end.ensures) in
+    let m = output_wide _ c.args.task.now.lowerable _ _ _ h c.output-node.ensures.node c.width-width.ensures in
+    output_row _ c.args.task.now.lowerable _ _ _ _ _ h c.output-node.ensures.node c.loop-o.invariant.0 c.lay.ensures m
 
 pub show-requires : goal.show-requires
 show-requires c =
-    let h : c.loop-o.o < outputs_of c.args.analysis.now.design.numbers.now = omega (arith, c.loop-o-test.true, c.outputs-o-end.ensures) in
-    let m = output_wide _ c.requires.lowerable _ _ _ h c.output-node.ensures.node c.width-width.ensures in
+    let h : c.loop-o.o < outputs_of c.args.task.now.analysis.design.numbers.now = omega (arith, c.loop-o-test.true, c.outputs-o-end.ensures) in
+    let m = output_wide _ c.args.task.now.lowerable _ _ _ h c.output-node.ensures.node c.width-width.ensures in
     record {
-      places = output_places _ c.requires.lowerable _ _ _ _ _ h c.output-node.ensures.node c.loop-o.invariant.0 c.lay.ensures m _ c.loop-o.invariant.1;
-      cells = (output_row _ c.requires.lowerable _ _ _ _ _ h c.output-node.ensures.node c.loop-o.invariant.0 c.lay.ensures m).room;
+      places = output_places _ c.args.task.now.lowerable _ _ _ _ _ h c.output-node.ensures.node c.loop-o.invariant.0 c.lay.ensures m _ c.loop-o.invariant.1;
+      cells = omega (arith, (output_row _ c.args.task.now.lowerable _ _ _ _ _ h c.output-node.ensures.node c.loop-o.invariant.0 c.lay.ensures m).room, c.len-first.ensures.value);
     }
 
 pub overflow_add-start : goal.overflow_add-start
 overflow_add-start c =
-    let h : c.loop-o.o < outputs_of c.args.analysis.now.design.numbers.now = omega (arith, c.loop-o-test.true, c.outputs-o-end.ensures) in
-    let m = output_wide _ c.requires.lowerable _ _ _ h c.output-node.ensures.node c.width-width.ensures in
-    omega (arith, output_places _ c.requires.lowerable _ _ _ _ _ h c.output-node.ensures.node c.loop-o.invariant.0 c.lay.ensures m _ c.loop-o.invariant.1)
+    let h : c.loop-o.o < outputs_of c.args.task.now.analysis.design.numbers.now = omega (arith, c.loop-o-test.true, c.outputs-o-end.ensures) in
+    let m = output_wide _ c.args.task.now.lowerable _ _ _ h c.output-node.ensures.node c.width-width.ensures in
+    omega (arith, output_places _ c.args.task.now.lowerable _ _ _ _ _ h c.output-node.ensures.node c.loop-o.invariant.0 c.lay.ensures m _ c.loop-o.invariant.1)
 
 pub loop-o-preserved : goal.loop-o-preserved
 loop-o-preserved c =
-    let h : c.loop-o.o < outputs_of c.args.analysis.now.design.numbers.now = omega (arith, c.loop-o-test.true, c.outputs-o-end.ensures) in
-    let m = output_wide _ c.requires.lowerable _ _ _ h c.output-node.ensures.node c.width-width.ensures in
+    let h : c.loop-o.o < outputs_of c.args.task.now.analysis.design.numbers.now = omega (arith, c.loop-o-test.true, c.outputs-o-end.ensures) in
+    let m = output_wide _ c.args.task.now.lowerable _ _ _ h c.output-node.ensures.node c.width-width.ensures in
     let s = c.show.ensures in (
-      output_step _ c.requires.lowerable _ _ _ _ _ h c.output-node.ensures.node c.loop-o.invariant.0 c.lay.ensures m _ _ _ _ c.loop-o.invariant.1 c.unary.ensures
-          s.cells s.count s.buses s.old s.new,
-      omega (arith, c.loop-o.invariant.1, m, total_more c.loop-o.o (output_width (design_in c.args.analysis.now.design.numbers.now))),
+      output_step _ c.args.task.now.lowerable _ _ _ _ _ h c.output-node.ensures.node c.loop-o.invariant.0 c.lay.ensures m _ _ _ _ _ c.loop-o.invariant.1 c.unary.ensures
+          c.len-first.ensures.value s.cells s.buses s.old s.new,
+      omega (arith, c.loop-o.invariant.1, m, total_more c.loop-o.o (output_width (design_in c.args.task.now.analysis.design.numbers.now))),
     )
 
 pub returns : goal.returns
 unfolding design_in
 returns c =
-    let e : c.loop-o.o ≡ outputs_of c.args.analysis.now.design.numbers.now = omega (arith, c.loop-o-test.false, c.loop-o.auto.o-end, c.outputs-o-end.ensures) in
+    let e : c.loop-o.o ≡ outputs_of c.args.task.now.analysis.design.numbers.now = omega (arith, c.loop-o-test.false, c.loop-o.auto.o-end, c.outputs-o-end.ensures) in
     rw e at c.loop-o.invariant.0

@@ -5,4 +5,4 @@ use Rattle.netlist.specs.Lowerings.{OutputsIn}
 use Rattle.netlist.proofs.lowering.lay_outputs.Given as goal
 
 abbrev pub invariant-loop-o : goal.invariant-loop-o
-invariant-loop-o l = OutputsIn l.analysis.design.numbers.now l.work l.o × (l.start ≡ total l.o (output_width (design_in l.analysis.design.numbers.now)))
+invariant-loop-o l = OutputsIn l.task.analysis.design.numbers.now l.work l.o × (l.start ≡ total l.o (output_width (design_in l.task.analysis.design.numbers.now)))

@@ -14,12 +14,12 @@ returns-then-counts-gt65535 c =
     let k = c.in_ok-counts.ensures in
     words_tracks _ _ k.0 k.1.tracks c.if-counts-gt65535.true
 
-pub whole-requires : goal.whole-requires
-whole-requires c =
+pub invariant_of-whole : goal.invariant_of-whole
+invariant_of-whole c =
     let k = c.in_ok-counts.ensures in
-    rw c.new.ensures (lowerable _ _ (not_refused _ c.args.design.readable) k.0 k.1.tracks c.if-counts-gt65535.false)
+    record { lowerable = rw c.new-analysis.ensures (lowerable _ _ (not_refused _ c.args.design.readable) k.0 k.1.tracks c.if-counts-gt65535.false) }
 
 pub returns : goal.returns
 returns c =
     let k = c.in_ok-counts.ensures in
-    (words_none _ _ k.0 k.1.tracks c.if-counts-gt65535.false, rw c.new.ensures at c.whole.ensures)
+    (words_none _ _ k.0 k.1.tracks c.if-counts-gt65535.false, rw c.new-analysis.ensures at c.whole.ensures)

@@ -1,21 +1,19 @@
 use Rattle.std.proofs.Common.{min, ap, ◌∙◌, rules}
 use Rattle.design.specs.Designs.{total}
 use Rattle.design.specs.Numbers.{design_in}
-use Rattle.netlist.proofs.Whole.{registers_none, outputs_none, whole_small, finished}
+use Rattle.netlist.proofs.Whole.{registers_fit, registers_none, outputs_none, finished}
 use Rattle.netlist.proofs.lowering.whole.Goals as goal
 
+pub new-work-requires : goal.new-work-requires
+new-work-requires c =
+    registers_fit _ _ c.args.task.now.lowerable (c.bits_before.ensures _ (λ j w h p. search rules) ∙ ap (λ k. min 65535 (total k (design_in c.args.task.now.analysis.design.numbers.now).register_width)) c.registers.ensures)
+
 pub lay_registers-requires : goal.lay_registers-requires
-lay_registers-requires c = record {
-  lowerable = c.requires;
-  begun = registers_none _ _ _ c.requires (c.bits_before.ensures _ (λ j w h p. search rules) ∙ ap (λ k. min 65535 (total k (design_in c.args.analysis.now.design.numbers.now).register_width)) c.registers.ensures)
-      c.new-work.ensures.count c.new-work.ensures.none;
-}
+lay_registers-requires c = registers_none _ _ _ c.args.task.now.lowerable (c.bits_before.ensures _ (λ j w h p. search rules) ∙ ap (λ k. min 65535 (total k (design_in c.args.task.now.analysis.design.numbers.now).register_width)) c.registers.ensures)
+    c.new-work.ensures.count c.new-work.ensures.none
 
 pub lay_outputs-requires : goal.lay_outputs-requires
-lay_outputs-requires c = record { lowerable = c.requires; begun = outputs_none _ c.requires _ c.lay_registers.ensures }
-
-pub new-requires : goal.new-requires
-new-requires c = whole_small _ _ c.requires c.lay_outputs.ensures
+lay_outputs-requires c = outputs_none _ c.args.task.now.lowerable _ c.lay_registers.ensures
 
 pub returns : goal.returns
-returns c = finished _ _ c.new.result c.lay_outputs.ensures c.new.ensures.0 c.new.ensures.1 c.new.ensures.2
+returns c = finished _ _ c.new.result c.lay_outputs.ensures c.new.ensures.0 c.new.ensures.1

@@ -20,7 +20,7 @@ pub unreachable-requires : goal.unreachable-requires
 unreachable-requires c =
     let r = c.args.self in
     let few = c.in_ok-netlist.ensures.1.few in
-    c.in_default.ensures (plain_room (size_of r.grid) (design_of r.design) _ _ c.in_ok-plain_room.ensures r.counted.inputs (omega (arith, few, c.count.ensures)))
+    c.in_default.ensures (plain_room (size_of r.grid) (design_of r.design) _ _ c.in_ok-plain_room.ensures r.counted.inputs (omega (arith, few, c.count.ensures.is)))
 
 pub invariant_of-result : goal.invariant_of-result
 invariant_of-result c =
@@ -30,7 +30,7 @@ invariant_of-result c =
     let d = design_of r.design in
     let lowered = c.in_ok-netlist.ensures.1 in
     let inputs = laid.1 ∙ r.counted.inputs in
-    let count = laid.2 ∙ c.count.ensures in
+    let count = laid.2 ∙ c.count.ensures.is in
     let few : output_bits d ≤ 1024 = omega (arith, outputs_below d, (has_room (size_of r.grid) d c.in_ok-plain_room.ensures).0, few_cells r.grid) in
     record {
       nets = nets_exist d n c.in-Some.routing lowered inputs count;
@@ -46,7 +46,7 @@ returns c =
       record {
         lowered = c.in_ok-netlist.ensures.1;
         inputs = laid.1 ∙ r.counted.inputs;
-        count = laid.2 ∙ c.count.ensures;
+        count = laid.2 ∙ c.count.ensures.is;
         pins = pins_are (design_of r.design) r.counts r.counted;
       },
     )
