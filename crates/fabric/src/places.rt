@@ -42,6 +42,19 @@ impl TryFrom<Size> for Grid {
     }
 }
 
+// The size of a grid.
+impl From<Grid> for Size {
+    ghost from_gives = { λ grid size. size ≡ size_of grid };
+
+    fn from(grid: Grid) -> Size {
+        Size {
+            columns: grid.columns as u64,
+            rows: grid.rows as u64,
+            tracks: grid.tracks as u64,
+        }
+    }
+}
+
 impl Grid {
     // How many cells there are.
     pub fn cells(self) -> usize

@@ -35,7 +35,7 @@ impl Spot<'_> {
         ensures { result ≡ (levels_of self.entry.moment).track self.entry.cell side track }
     {
         let tracks = self.moment.wiring.grid.tracks;
-        let place = u16::from(side) as usize * tracks + track;
+        let place = usize::from(side) * tracks + track;
         self.moment.levels[self.cell * (1 + 4 * tracks) + (1 + place)]
     }
 
@@ -46,7 +46,7 @@ impl Spot<'_> {
         ensures { result ≡ pads_of self.entry.moment.wiring self.entry.cell side track }
     {
         let wiring = self.moment.wiring;
-        wiring.pads[(self.cell * 4 + u16::from(side) as usize) * wiring.grid.tracks + track] == 1
+        wiring.pads[(self.cell * 4 + usize::from(side)) * wiring.grid.tracks + track] == 1
     }
 
     // What comes in to the cell from a side on a track.

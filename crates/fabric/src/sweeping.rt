@@ -26,7 +26,7 @@ impl Spot<'_> {
         requires { track < self.moment.wiring.grid.tracks }
         ensures { let w = self.entry.moment.wiring in result ≡ read (grid_of w) (pads_of w) (levels_of self.entry.moment) self.entry.cell ((config_of w).drive self.entry.cell side track) }
     {
-        let place = u16::from(side) as usize * self.moment.wiring.grid.tracks + track;
+        let place = usize::from(side) * self.moment.wiring.grid.tracks + track;
         self.read(Source::from(self.word(22 + place)))
     }
 }
