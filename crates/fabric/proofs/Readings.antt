@@ -20,10 +20,6 @@ word_inside w c k q h m e = rw (e, w.bits_len) (word_below (cell_count (grid_of 
 pub bits_few : (w : Wiring) → length w.bits.now ≤ 32000
 bits_few w = rw w.bits_len w.grid.fits
 
-pub copied_item : (xs : List ℕ) (i : ℕ) (r : Option (Bor ℕ)) → IsItemAt xs i r → unwrap_or (option_copied r) 0 ≡ get_or xs i 0
-copied_item xs i None h = grind (arith, nat_tests, common_steps)
-copied_item xs i (Some x) h = grind (arith, nat_tests, common_steps)
-
 pub bit_byte : (b : Bool) → from_bool b ≡ bit b
 bit_byte true = refl
 bit_byte false = refl

@@ -15,22 +15,18 @@ use place::plain::Placement;
 use std::cmp::Ordering;
 
 impl Plain {
-    // The plain layout of so many input bits and cells, or none where there is no room for it. An `if`, since `then_some` would build a
-    // layout for which there is no room.
+    // The plain layout of so many input bits and cells, or none where there is no room for it.
     pub fn new(grid: Grid, inputs: u16, count: u16) -> Option<Plain>
         ensures { MatchOption result (Room (size_of grid) inputs count → ⊥)
             (λ p. (p.grid ≡ grid) × (p.inputs ≡ inputs) × (p.placement.count ≡ count)) }
     {
         let cells = count as usize;
-        if cells <= grid.columns * grid.rows && inputs as usize + cells <= grid.tracks {
-            Some(Plain {
-                grid,
-                inputs,
-                placement: Placement::new(count),
-            })
-        } else {
-            None
-        }
+        let fits = cells <= grid.columns * grid.rows && inputs as usize + cells <= grid.tracks;
+        fits.then(|| Plain {
+            grid,
+            inputs,
+            placement: Placement::new(count),
+        })
     }
 
     // The side of a cell from which something that begins at another comes; none where they are the same.
