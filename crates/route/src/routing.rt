@@ -15,18 +15,22 @@ use place::plain::Placement;
 use std::cmp::Ordering;
 
 impl Plain {
-    // The plain layout of so many input bits and cells, or none where there is no room for it.
+    // The plain layout of so many input bits and cells, or none where there is no room for it. An `if`: a closure for
+    // `then` has to say in a `requires` of its own both bounds that are tested, which is longer.
     pub fn new(grid: Grid, inputs: u16, count: u16) -> Option<Plain>
         ensures { MatchOption result (Room (size_of grid) inputs count → ⊥)
             (λ p. (p.grid ≡ grid) × (p.inputs ≡ inputs) × (p.placement.count ≡ count)) }
     {
         let cells = count as usize;
-        let fits = cells <= grid.columns * grid.rows && inputs as usize + cells <= grid.tracks;
-        fits.then(|| Plain {
-            grid,
-            inputs,
-            placement: Placement::new(count),
-        })
+        if cells <= grid.columns * grid.rows && inputs as usize + cells <= grid.tracks {
+            Some(Plain {
+                grid,
+                inputs,
+                placement: Placement::new(count),
+            })
+        } else {
+            None
+        }
     }
 
     // The side of a cell from which something that begins at another comes; none where they are the same.
