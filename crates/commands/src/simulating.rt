@@ -34,11 +34,7 @@ fn unplayable<'a>(
 fn untickable(heap: Global, grid: Grid, refusal: Refusal) -> Result<Said, AllocError>
     ensures { IfOk result (λ s. SaysRefusal s) }
 {
-    let size = Size {
-        columns: grid.columns as u64,
-        rows: grid.rows as u64,
-        tracks: grid.tracks as u64,
-    };
+    let size = Size::from(grid);
     let asked = Asked { size, numbers: &[] };
     refused(heap, Trouble::Design { refusal, asked })
 }

@@ -4,7 +4,7 @@ use Rattle.std.proofs.lemmas.Nat.{mul-add-lt, div_below, mod_below}
 use Rattle.fabric.specs.declared.parts.Side.{Side}
 use Rattle.fabric.specs.declared.parts.Side.TheVariants.{Left, Above}
 use Rattle.fabric.specs.Fabrics.{Size, cell_count, at_edge, neighbour}
-use Rattle.fabric.specs.Numbers.{side_number, pad_place, pads_length}
+use Rattle.fabric.specs.Numbers.{side_number, per_cell, pad_place, pads_length}
 use Rattle.fabric.specs.Code.{track_place, out_place}
 use Rattle.fabric.proofs.Coding.{side_number_small}
 use Rattle.fabric.proofs.Geometry.{neighbour_inside, no_left_edge, no_above_edge, columns_below, row_of, column_of}
@@ -47,6 +47,11 @@ cell_below N T c h = omega (arith, mul-add-lt c (1 + 4 * T) 0 N h (omega arith))
 pub pad_inside : (z : Size) (c : ℕ) (s : Side) (t : ℕ) → c < cell_count z → t < z.tracks → pad_place z c s t < pads_length z
 unfolding pad_place pads_length
 pad_inside z c s t h l = pad_below (cell_count z) z.tracks c (side_number s) t h (side_number_small s) l
+
+-- the source of a track among a cell's numbers
+pub drive_inside : (z : Size) (s : Side) (t : ℕ) → t < z.tracks → 22 + (side_number s * z.tracks + t) < per_cell z
+unfolding per_cell
+drive_inside z s t l = omega (arith, mul-add-lt (side_number s) z.tracks t 4 (side_number_small s) l)
 
 -- the track at place k among the pads
 pub out_below : (N T k : ℕ) → 0 < T → k < N * 4 * T → k / (4 * T) * (1 + 4 * T) + (1 + k % (4 * T)) < N * (1 + 4 * T)

@@ -1,11 +1,6 @@
 -- What the code of a fabric's readings rests on.
-use Rattle.std.proofs.Common.{◌≡◌, ℕ, ◌+◌, ◌*◌, ◌<◌, ◌≤◌, Bool, true, false, List, length, get_or, Option, Some, None, unwrap_or, refl, arith}
-use Rattle.std.specs.Borrow.{Bor}
+use Rattle.std.proofs.Common.{◌≡◌, ℕ, ◌+◌, ◌*◌, ◌<◌, ◌≤◌, Bool, true, false, length, refl, arith}
 use Rattle.std.specs.Int.{from_bool}
-use Rattle.std.specs.Option.{option_copied}
-use Rattle.std.specs.Slice.{IsItemAt}
-use Rattle.std.proofs.lemmas.Grind.{common_steps}
-use Rattle.std.proofs.lemmas.Bool.Decides.{nat_tests}
 use Rattle.fabric.specs.declared.wiring.Wiring.{Wiring}
 use Rattle.fabric.specs.Fabrics.{cell_count}
 use Rattle.fabric.specs.Numbers.{per_cell}
@@ -19,10 +14,6 @@ word_inside w c k q h m e = rw (e, w.bits_len) (word_below (cell_count (grid_of 
 
 pub bits_few : (w : Wiring) → length w.bits.now ≤ 32000
 bits_few w = rw w.bits_len w.grid.fits
-
-pub copied_item : (xs : List ℕ) (i : ℕ) (r : Option (Bor ℕ)) → IsItemAt xs i r → unwrap_or (option_copied r) 0 ≡ get_or xs i 0
-copied_item xs i None h = grind (arith, nat_tests, common_steps)
-copied_item xs i (Some x) h = grind (arith, nat_tests, common_steps)
 
 pub bit_byte : (b : Bool) → from_bool b ≡ bit b
 bit_byte true = refl

@@ -98,6 +98,15 @@ impl From<Side> for u16 {
     }
 }
 
+// The same number, as a part of a place.
+impl From<Side> for usize {
+    ghost from_gives = { λ side n. (n ≡ side_number side) × (n < 4) };
+
+    fn from(side: Side) -> usize {
+        usize::from(u16::from(side))
+    }
+}
+
 // The side of that number.
 impl TryFrom<u16> for Side {
     type Error = NoSide;

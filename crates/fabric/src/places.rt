@@ -1,11 +1,11 @@
 // Sizes and places on a fabric.
-ghost use Rattle.std.specs.Prelude.{◌≡◌, ◌<◌, ◌≤◌, true, false, Some, None, MatchOption, MatchResult};
+ghost use Rattle.std.specs.Prelude.{◌≡◌, ◌+◌, ◌*◌, ◌<◌, ◌≤◌, true, false, Some, None, MatchOption, MatchResult};
 ghost use Rattle.fabric.specs.Fabrics.{cell_count, at_edge, neighbour};
-ghost use Rattle.fabric.specs.Numbers.{per_cell, room_length, pads_length, size_refusal};
+ghost use Rattle.fabric.specs.Numbers.{side_number, per_cell, room_length, pads_length, pad_place, size_refusal};
 ghost use Rattle.fabric.specs.Code.{size_of, signal_count};
 
 use crate::grid::Grid;
-use crate::parts::Side;
+use crate::parts::{Pin, Side};
 use crate::size::Size;
 use design::refusal::Refusal;
 
@@ -42,6 +42,19 @@ impl TryFrom<Size> for Grid {
     }
 }
 
+// The size of a grid.
+impl From<Grid> for Size {
+    ghost from_gives = { λ grid size. size ≡ size_of grid };
+
+    fn from(grid: Grid) -> Size {
+        Size {
+            columns: grid.columns as u64,
+            rows: grid.rows as u64,
+            tracks: grid.tracks as u64,
+        }
+    }
+}
+
 impl Grid {
     // How many cells there are.
     pub fn cells(self) -> usize
@@ -72,6 +85,22 @@ impl Grid {
         ensures { result ≡ pads_length (size_of self) }
     {
         self.cells() * 4 * self.tracks
+    }
+
+    // Where a pin stands among all pads.
+    #[tactic(auto, unfolding(crate::specs::Numbers::pad_place))]
+    pub fn pad_place(self, pin: Pin) -> usize
+        ensures { result ≡ pad_place (size_of self) pin.cell pin.side pin.track }
+    {
+        let edge = usize::from(pin.cell) * 4 + usize::from(pin.side);
+        edge * self.tracks + usize::from(pin.track)
+    }
+
+    // Where the source of a track that goes out of a cell stands among the cell's numbers.
+    pub fn drive_place(self, side: Side, track: u16) -> usize
+        ensures { result ≡ 22 + (side_number side * self.tracks + track) }
+    {
+        22 + (usize::from(side) * self.tracks + usize::from(track))
     }
 
     // How many cells and tracks there are together.

@@ -5,8 +5,8 @@ ghost use Rattle.fabric.specs.Fabrics.{cell_count, at_edge, neighbour, incoming,
 ghost use Rattle.fabric.specs.Numbers.{per_cell};
 ghost use Rattle.fabric.specs.Code.{grid_of, config_of, pads_of, levels_of};
 
-use crate::parts::{Side, Source};
-use crate::wiring::Spot;
+use crate::parts::{Pin, Source};
+use crate::wiring::{Spot, Track};
 
 impl Spot<'_> {
     // Number k of the cell's configuration.
@@ -15,8 +15,7 @@ impl Spot<'_> {
         requires { k < per_cell (grid_of self.moment.wiring) }
         ensures { let w = self.entry.moment.wiring in result ≡ slice_index w.bits.now (self.entry.cell * per_cell (grid_of w) + k) }
     {
-        let wiring = self.moment.wiring;
-        wiring.bits[self.cell * wiring.grid.per_cell() + k]
+        self.moment.wiring.bits[self.cell * self.grid().per_cell() + k]
     }
 
     // What the cell shows.
@@ -24,42 +23,8 @@ impl Spot<'_> {
     pub(crate) fn shown(self) -> bool
         ensures { result ≡ (levels_of self.entry.moment).cell self.entry.cell }
     {
-        let sides = 4 * self.moment.wiring.grid.tracks;
+        let sides = 4 * self.grid().tracks;
         self.moment.levels[self.cell * (1 + sides)]
-    }
-
-    // What a track carries that goes out of the cell.
-    #[tactic(auto, unfolding(crate::specs::Code::state_of))]
-    pub(crate) fn carried(self, side: Side, track: usize) -> bool
-        requires { track < self.moment.wiring.grid.tracks }
-        ensures { result ≡ (levels_of self.entry.moment).track self.entry.cell side track }
-    {
-        let tracks = self.moment.wiring.grid.tracks;
-        let place = u16::from(side) as usize * tracks + track;
-        self.moment.levels[self.cell * (1 + 4 * tracks) + (1 + place)]
-    }
-
-    // What a pad at the cell carries.
-    #[tactic(auto, unfolding(crate::specs::Numbers::pads_in, crate::specs::Numbers::pad_place))]
-    pub(crate) fn pad(self, side: Side, track: usize) -> bool
-        requires { track < self.moment.wiring.grid.tracks }
-        ensures { result ≡ pads_of self.entry.moment.wiring self.entry.cell side track }
-    {
-        let wiring = self.moment.wiring;
-        wiring.pads[(self.cell * 4 + u16::from(side) as usize) * wiring.grid.tracks + track] == 1
-    }
-
-    // What comes in to the cell from a side on a track.
-    #[tactic(auto, unfolding(crate::specs::Fabrics::incoming))]
-    pub(crate) fn incoming(self, side: Side, track: usize) -> bool
-        requires { track < self.moment.wiring.grid.tracks }
-        ensures { let w = self.entry.moment.wiring in result ≡ incoming (grid_of w) (pads_of w) (levels_of self.entry.moment) self.entry.cell side track }
-    {
-        let moment = self.moment;
-        match moment.wiring.grid.neighbour(self.cell, side) {
-            Some(cell) => Spot { moment, cell }.carried(side.opposite(), track),
-            None => self.pad(side, track),
-        }
     }
 
     // What a source at the cell gives.
@@ -71,8 +36,8 @@ impl Spot<'_> {
             Source::Nothing => false,
             Source::Own => self.shown(),
             Source::Track { side, track } => {
-                let track = track as usize;
-                track < self.moment.wiring.grid.tracks && self.incoming(side, track)
+                let (spot, number) = (self, track);
+                usize::from(track) < self.grid().tracks && Track { spot, side, number }.incoming()
             }
         }
     }
@@ -98,5 +63,47 @@ impl Spot<'_> {
         let c = self.input(2);
         let d = self.input(3);
         self.word(a + 2 * b + 4 * c + 8 * d) == 1
+    }
+}
+
+impl Track<'_> {
+    // What it carries out of the cell.
+    #[tactic(auto, unfolding(crate::specs::Code::state_of))]
+    pub(crate) fn carried(self) -> bool
+        ensures { result ≡ (levels_of self.entry.spot.moment).track self.entry.spot.cell self.entry.side self.entry.number }
+    {
+        let tracks = self.grid().tracks;
+        let place = usize::from(self.side) * tracks + usize::from(self.number);
+        self.spot.moment.levels[self.spot.cell * (1 + 4 * tracks) + (1 + place)]
+    }
+
+    // What the pad beside it carries.
+    #[tactic(auto, unfolding(crate::specs::Numbers::pads_in))]
+    pub(crate) fn pad(self) -> bool
+        ensures { result ≡ pads_of self.entry.spot.moment.wiring self.entry.spot.cell self.entry.side self.entry.number }
+    {
+        let pin = Pin {
+            cell: self.spot.cell as u16,
+            side: self.side,
+            track: self.number,
+        };
+        self.spot.moment.wiring.pads[self.grid().pad_place(pin)] == 1
+    }
+
+    // What comes in to the cell beside it.
+    #[tactic(auto, unfolding(crate::specs::Fabrics::incoming))]
+    pub(crate) fn incoming(self) -> bool
+        ensures { let m = self.entry.spot.moment in result ≡ incoming (grid_of m.wiring) (pads_of m.wiring) (levels_of m) self.entry.spot.cell self.entry.side self.entry.number }
+    {
+        let moment = self.spot.moment;
+        match self.grid().neighbour(self.spot.cell, self.side) {
+            Some(cell) => Track {
+                spot: Spot { moment, cell },
+                side: self.side.opposite(),
+                number: self.number,
+            }
+            .carried(),
+            None => self.pad(),
+        }
     }
 }

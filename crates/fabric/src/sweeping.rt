@@ -5,29 +5,30 @@ ghost use Rattle.fabric.specs.Numbers.{held_in};
 ghost use Rattle.fabric.specs.Code.{grid_of, config_of, pads_of, signal_count, state_of, levels_of, signal_at};
 
 use crate::parts::{Side, Source};
-use crate::wiring::{Moment, Spot, Wiring};
+use crate::wiring::{Moment, Spot, Track, Wiring};
 
 impl Spot<'_> {
     // What the cell shows after a sweep.
-    #[tactic(auto, using(crate::proofs::Readings::copied_item), unfolding(crate::specs::Numbers::per_cell, crate::specs::Numbers::config_in, crate::specs::Numbers::held_in, crate::specs::Fabrics::sweep))]
+    #[tactic(auto, unfolding(crate::specs::Numbers::per_cell, crate::specs::Numbers::config_in, crate::specs::Numbers::held_in, crate::specs::Fabrics::sweep))]
     pub(crate) fn next(self, held: &[u8]) -> bool
         ensures { let w = self.entry.moment.wiring in result ≡ (sweep (grid_of w) (config_of w) (held_in held.now) (pads_of w) (levels_of self.entry.moment)).cell self.entry.cell }
     {
         if self.word(20) == 1 {
-            held.get(self.cell).copied().unwrap_or(0) == 1
+            held.get(self.cell) == Some(&1)
         } else {
             self.lookup()
         }
     }
+}
 
-    // What a track that goes out of the cell carries after a sweep.
+impl Track<'_> {
+    // What it carries out of the cell after a sweep.
     #[tactic(auto, unfolding(crate::specs::Numbers::per_cell, crate::specs::Numbers::config_in))]
-    pub(crate) fn next_carried(self, side: Side, track: usize) -> bool
-        requires { track < self.moment.wiring.grid.tracks }
-        ensures { let w = self.entry.moment.wiring in result ≡ read (grid_of w) (pads_of w) (levels_of self.entry.moment) self.entry.cell ((config_of w).drive self.entry.cell side track) }
+    pub(crate) fn next(self) -> bool
+        ensures { let m = self.entry.spot.moment in result ≡ read (grid_of m.wiring) (pads_of m.wiring) (levels_of m) self.entry.spot.cell ((config_of m.wiring).drive self.entry.spot.cell self.entry.side self.entry.number) }
     {
-        let place = u16::from(side) as usize * self.moment.wiring.grid.tracks + track;
-        self.read(Source::from(self.word(22 + place)))
+        let place = self.grid().drive_place(self.side, self.number);
+        self.spot.read(Source::from(self.spot.word(place)))
     }
 }
 
@@ -38,7 +39,7 @@ impl Moment<'_> {
         requires { place < signal_count (grid_of self.wiring) }
         ensures { let w = self.entry.wiring in result ≡ signal_at (grid_of w) (sweep (grid_of w) (config_of w) (held_in held.now) (pads_of w) (levels_of self.entry)) place }
     {
-        let tracks = self.wiring.grid.tracks;
+        let tracks = self.grid().tracks;
         let spot = Spot {
             moment: self,
             cell: place / (1 + 4 * tracks),
@@ -47,7 +48,12 @@ impl Moment<'_> {
         if rest == 0 {
             spot.next(held)
         } else {
-            spot.next_carried(Side::at((rest - 1) / tracks), (rest - 1) % tracks)
+            let track = Track {
+                spot,
+                side: Side::at((rest - 1) / tracks),
+                number: ((rest - 1) % tracks) as u16,
+            };
+            track.next()
         }
     }
 

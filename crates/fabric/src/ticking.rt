@@ -14,7 +14,7 @@ use design::refusal::Refusal;
 const SIGNALS: usize = 32000;
 
 // What a tick answers. The C interface needs an enum of its own here, in place of a `Result`.
-#[derive(Clone, Copy)]
+#[derive(Clone, Copy, PartialEq, Eq, Debug)]
 pub enum Done {
     // the fabric settled, and the held bits and outputs are written
     Ticked,

@@ -2,6 +2,7 @@
 ghost use Rattle.std.specs.Prelude.{◌≡◌, ◌+◌, ◌*◌, ◌<◌, length};
 
 use crate::grid::Grid;
+use crate::parts::Side;
 
 // A configured fabric with what comes in at its edges.
 #[derive(Clone, Copy)]
@@ -27,4 +28,37 @@ pub(crate) struct Spot<'a> {
     pub(crate) moment: Moment<'a>,
     pub(crate) cell: usize,
     ghost inside: { cell < moment.wiring.grid.columns * moment.wiring.grid.rows },
+}
+
+// One of the tracks that go out of the cell on a side, or the one that comes in beside it.
+#[derive(Clone, Copy)]
+pub(crate) struct Track<'a> {
+    pub(crate) spot: Spot<'a>,
+    pub(crate) side: Side,
+    pub(crate) number: u16,
+    ghost inside: { number < spot.moment.wiring.grid.tracks },
+}
+
+impl Moment<'_> {
+    pub(crate) fn grid(self) -> Grid
+        ensures { result ≡ self.entry.wiring.grid }
+    {
+        self.wiring.grid
+    }
+}
+
+impl Spot<'_> {
+    pub(crate) fn grid(self) -> Grid
+        ensures { result ≡ self.entry.moment.wiring.grid }
+    {
+        self.moment.grid()
+    }
+}
+
+impl Track<'_> {
+    pub(crate) fn grid(self) -> Grid
+        ensures { result ≡ self.entry.spot.moment.wiring.grid }
+    {
+        self.spot.grid()
+    }
 }

@@ -29,7 +29,7 @@ impl Moment<'_> {
             slice_index outs.new (pad_place (grid_of w) c s t) ≡ bit ((levels_of self.entry).track c s t) }
     {
         for (place, slot) in outs.iter_mut().enumerate() {
-            *slot = u8::from(self.levels[self.wiring.grid.out_place(place)]);
+            *slot = u8::from(self.levels[self.grid().out_place(place)]);
         }
     }
 }

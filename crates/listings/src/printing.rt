@@ -77,7 +77,7 @@ impl Cell<'_> {
     // The tracks that go out of it on a side.
     fn write_drives<W: fmt::Write>(&self, f: &mut fmt::Formatter<W>, side: Side) -> fmt::Result {
         for track in 0..self.grid.tracks {
-            let source = self.source(22 + usize::from(u16::from(side)) * self.grid.tracks + track);
+            let source = self.source(self.grid.drive_place(side, track as u16));
             if source != Source::Nothing {
                 let from = Named(source);
                 writeln!(f, "cell {} {side} {track} from {from}", self.at)?;

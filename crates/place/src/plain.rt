@@ -5,7 +5,7 @@ ghost use Rattle.place.specs.Plain.{plain_occupant};
 use netlist::parts::Net;
 
 // The plain placement of so many cells.
-#[derive(Clone, Copy)]
+#[derive(Clone, Copy, PartialEq, Eq, Debug)]
 pub struct Placement {
     pub count: u16,
 }

@@ -83,12 +83,10 @@ impl<'a> Draft<'a> {
     fn set_drive(&mut self, cell: u16, side: Side, track: u16, source: Source) -> Option<()>
         ensures { self.new.grid ≡ self.old.grid }
     {
-        let tracks = self.grid.tracks;
-        let track = usize::from(track);
-        if track >= tracks {
+        if usize::from(track) >= self.grid.tracks {
             return None;
         }
-        let k = 22 + usize::from(u16::from(side)) * tracks + track;
+        let k = self.grid.drive_place(side, track);
         self.say(cell, k, &[u16::from(source)])
     }
 

@@ -5,7 +5,7 @@ use fabric::grid::Grid;
 use place::plain::Placement;
 
 // The plain layout on a fabric, of so many input bits and of the cells of a placement. There is room for it.
-#[derive(Clone, Copy)]
+#[derive(Clone, Copy, PartialEq, Eq, Debug)]
 pub struct Plain {
     pub grid: Grid,
     pub inputs: u16,

@@ -15,8 +15,8 @@ use place::plain::Placement;
 use std::cmp::Ordering;
 
 impl Plain {
-    // The plain layout of so many input bits and cells, or none where there is no room for it. An `if`, since `then_some` would build a
-    // layout for which there is no room.
+    // The plain layout of so many input bits and cells, or none where there is no room for it. An `if`: a closure for
+    // `then` has to say in a `requires` of its own both bounds that are tested, which is longer.
     pub fn new(grid: Grid, inputs: u16, count: u16) -> Option<Plain>
         ensures { MatchOption result (Room (size_of grid) inputs count → ⊥)
             (λ p. (p.grid ≡ grid) × (p.inputs ≡ inputs) × (p.placement.count ≡ count)) }

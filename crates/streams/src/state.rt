@@ -1,7 +1,4 @@
 // A fabric that is played.
-ghost use Rattle.std.specs.Prelude.{◌≡◌};
-ghost use Rattle.fabric.specs.Code.{size_of};
-ghost use Rattle.fabric.specs.Numbers.{pad_place};
 
 use fabric::grid::Grid;
 use fabric::parts::Pin;
@@ -16,15 +13,6 @@ pub(crate) struct State<'a> {
     held: Vec<u8>,
     pads: Vec<u8>,
     outs: Vec<u8>,
-}
-
-// Where a pin stands among all pads.
-#[tactic(auto, unfolding(fabric::specs::Numbers::pad_place))]
-fn pad_place(grid: Grid, pin: Pin) -> usize
-    ensures { result ≡ pad_place (size_of grid) pin.cell pin.side pin.track }
-{
-    let edge = pin.cell as usize * 4 + u16::from(pin.side) as usize;
-    edge * grid.tracks + pin.track as usize
 }
 
 // What each cell holds at first.
@@ -43,7 +31,7 @@ fn initial(heap: Global, listing: &Listing) -> Result<Vec<u8>, AllocError> {
 fn put_input(pads: &mut [u8], grid: Grid, port: &Port, n: u64) {
     let mut rest = n;
     for pin in &port.pins {
-        if let Some(pad) = pads.get_mut(pad_place(grid, *pin)) {
+        if let Some(pad) = pads.get_mut(grid.pad_place(*pin)) {
             *pad = (rest & 1) as u8;
         }
         rest >>= 1;
@@ -52,7 +40,7 @@ fn put_input(pads: &mut [u8], grid: Grid, port: &Port, n: u64) {
 
 // The bit that a pin carries.
 fn bit_at(outs: &[u8], grid: Grid, pin: Pin) -> u64 {
-    u64::from(outs.get(pad_place(grid, pin)) == Some(&1))
+    u64::from(outs.get(grid.pad_place(pin)) == Some(&1))
 }
 
 impl<'a> State<'a> {
