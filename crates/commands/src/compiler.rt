@@ -3,8 +3,8 @@ ghost use Rattle.std.specs.Prelude.{◌≡◌, ◌<◌, false, length, is_ok};
 
 use crate::compiling::compile;
 use crate::files::{Failed, fail, load, print, say};
+use entries::lines::read_size;
 use fabric::size::Size;
-use words::numbers::decimal_or_most;
 
 const HELP: &str = "compile: put a design on a fabric
 
@@ -28,15 +28,6 @@ const NO_TEXTS: &str =
 const USAGE: &str =
     "write: compile --numbers FILE fabric ROWS COLUMNS TRACKS (compile --help says more)";
 
-// The size that three words say.
-fn size_of(rows: &str, columns: &str, tracks: &str) -> Option<Size> {
-    Some(Size {
-        columns: decimal_or_most(columns)?,
-        rows: decimal_or_most(rows)?,
-        tracks: decimal_or_most(tracks)?,
-    })
-}
-
 // compile --numbers FILE fabric ROWS COLUMNS TRACKS
 fn compile_file(rt: &HostRuntime, file: &str, size: Size) -> Result<(), Failed> {
     let design = load(rt, file)?;
@@ -52,7 +43,7 @@ pub fn run(rt: &HostRuntime, words: &[String]) -> Result<(), Failed>
         [_, help, ..] if help.as_str() == "--help" => print(rt, HELP),
         [_, numbers, file, fabric, rows, columns, tracks]
             if numbers.as_str() == "--numbers" && fabric.as_str() == "fabric" => {
-            match size_of(rows.as_str(), columns.as_str(), tracks.as_str()) {
+            match read_size(rows.as_str(), columns.as_str(), tracks.as_str()) {
                 Some(size) => compile_file(rt, file.as_str(), size),
                 None => fail(rt, USAGE),
             }

@@ -2,11 +2,10 @@
 ghost use Rattle.std.specs.Prelude.{◌≡◌, IfOk, None};
 ghost use Rattle.fabric.specs.Code.{size_of};
 ghost use Rattle.fabric.specs.Numbers.{size_refusal};
-ghost use Rattle.commands.specs.Sayings.{SaysCompiled, SaysRefusal};
+ghost use Rattle.commands.specs.Sayings.{SaysCompiled};
 
 use crate::said::Said;
 use crate::texts::{line_of, refused, text_of};
-use design::refusal::Refusal;
 use fabric::size::Size;
 use listings::parts::Listing;
 use messages::trouble::{Asked, Trouble};
@@ -33,15 +32,6 @@ fn compile_asked(heap: Global, asked: Asked) -> Result<Said, AllocError>
     }
 }
 
-// Says which line of a design can't be read.
-fn unreadable(heap: Global, text: &str, refusal: Refusal) -> Result<Said, AllocError>
-    ensures { IfOk result (λ s. SaysRefusal s) }
-{
-    let line = refusal.place();
-    let text = line_of(text, line);
-    refused(heap, Trouble::Numbers { line, text })
-}
-
 // A match for the same reason.
 fn compile_text(heap: Global, size: Size, text: &str) -> Result<Said, AllocError>
     ensures { IfOk result (λ s. SaysCompiled size s) }
@@ -52,7 +42,9 @@ fn compile_text(heap: Global, size: Size, text: &str) -> Result<Said, AllocError
             compile_asked(heap, Asked { size, numbers })
         }
         Err(Unput::Memory) => Err(AllocError),
-        Err(Unput::Turned(refusal)) => unreadable(heap, text, refusal),
+        Err(Unput::Turned(refusal)) => {
+            refused(heap, Trouble::Numbers(line_of(text, refusal.place())))
+        }
     }
 }
 
@@ -60,8 +52,8 @@ fn compile_text(heap: Global, size: Size, text: &str) -> Result<Said, AllocError
 pub fn compile(heap: Global, size: Size, design: &[u8]) -> Result<Said, AllocError>
     ensures { IfOk result (λ s. SaysCompiled size s) }
 {
-    match text_of(design) {
+    match text_of("design", design) {
         Ok(text) => compile_text(heap, size, text),
-        Err(line) => refused(heap, Trouble::Bytes { of: "design", line }),
+        Err(trouble) => refused(heap, trouble),
     }
 }

@@ -1,4 +1,4 @@
-// Tests of listings, streams and messages.
+// Tests of pages, listings, streams and messages.
 #![tactic(auto)]
 
 #[cfg(test)]
@@ -7,7 +7,11 @@ mod tests {
     use commands::said::Said;
     use commands::simulating::simulate;
     use design::encoded::Encoded;
+    use design::refusal::Refusal;
     use fabric::size::Size;
+    use pages::page::Page;
+    use putting::putting::{compiled as compiled_bits, compiled_words};
+    use putting::unput::Unput;
     use putting::widths::output_widths;
     use reading::lines::read;
     use reading::unread::Unread;
@@ -214,6 +218,50 @@ cell 0 right 2 from own ";
             played(rt.alloc(), WIRES, "a 4 b 0")?.as_str(),
             "! refused 8 at 0: line 1 of the stream can't be read: \"a 4 b 0\"; each line gives every input once, with a number that fits it: a of 2 bits b of 1 bits"
         );
+        Ok(())
+    }
+
+    // The text of a listing of a design of words; a mark where there is none.
+    fn printed_words(heap: Global, size: Size, numbers: &[u64]) -> Result<String, AllocError> {
+        match compiled_words(heap, size, numbers) {
+            Ok(listing) => listing.print(heap),
+            Err(_) => String::from_str(heap, "!"),
+        }
+    }
+
+    // An output that shows an input of 3 bits, which isn't of single bits.
+    #[test]
+    fn words_are_put(rt: HostRuntime) -> Result<(), Fail> {
+        let size = Size {
+            columns: 3,
+            rows: 1,
+            tracks: 8,
+        };
+        let numbers = [1, 0, 1, 1, 3, 0, 0, 0, 0, 0];
+        assert_eq!(rt;
+            compiled_bits(rt.alloc(), size, &numbers).err(),
+            Some(Unput::Turned(Refusal::NotYet { node: 1 }))
+        );
+        let listing = printed_words(rt.alloc(), size, &numbers)?;
+        assert_eq!(rt;
+            played(rt.alloc(), listing.as_str(), "i0 5\ni0 2\n")?.as_str(),
+            "o0 5\no0 2\n"
+        );
+        Ok(())
+    }
+
+    #[test]
+    fn pages(rt: HostRuntime) -> Result<(), Fail> {
+        let mut page = Page::new(rt.alloc());
+        page.add("cell");
+        page.letter(b' ');
+        page.number(1024);
+        page.add("\n");
+        assert_eq!(rt; page.done()?.as_str(), "cell 1024\n");
+        let mut lost = Page::new(rt.alloc());
+        lost.lose(AllocError);
+        lost.add("cell");
+        assert!(rt; lost.done().is_err());
         Ok(())
     }
 

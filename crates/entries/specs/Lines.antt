@@ -1,9 +1,11 @@
 -- What a line says, by its words.
-use Rattle.std.specs.Prelude.{◌≡◌, ℕ, ◌+◌, ◌<◌, Bool, cond, List, length, Some, codes}
+use Rattle.std.specs.Prelude.{◌≡◌, ℕ, ◌+◌, ◌<◌, Bool, cond, List, length, Some, Option, MatchOption, codes}
 use Rattle.std.specs.Borrow.{Bor}
+use Rattle.std.specs.Str.Parse.{IsNumeral}
 use Rattle.fabric.specs.declared.parts.Pin.{Pin}
 use Rattle.fabric.specs.declared.parts.Source.{Source}
 use Rattle.fabric.specs.declared.parts.Source.TheVariants.{Nothing, Own, Track}
+use Rattle.fabric.specs.declared.size.Size.{Size}
 use Rattle.fabric.specs.Sides.{side_word}
 use Rattle.words.specs.Numbers.{Capped}
 use Rattle.entries.specs.declared.entry.Direction.{Direction}
@@ -18,6 +20,12 @@ abbrev pub SourceAt : List (Bor (List ℕ)) → ℕ → Source → Type 0
 SourceAt words at Nothing = word_at words at ≡ codes "nothing"
 SourceAt words at Own = word_at words at ≡ codes "own"
 SourceAt words at (Track side track) = (word_at words at ≡ side_word side) × Small (word_at words (at + 1)) (Some track) × (track < 64)
+
+-- the size that three words say; there is none where one of them is no number
+abbrev pub SizeSaid : (rows columns tracks : List ℕ) → Option Size → Type 0
+SizeSaid rows columns tracks r = MatchOption r
+    (IsNumeral 10 rows → IsNumeral 10 columns → IsNumeral 10 tracks → ⊥)
+    (λ z. Capped rows (Some z.rows) × Capped columns (Some z.columns) × Capped tracks (Some z.tracks))
 
 -- fabric ROWS COLUMNS TRACKS
 pub record FabricLine (words : List (Bor (List ℕ))) (rows columns tracks : ℕ) : Type 0 where

@@ -1,6 +1,6 @@
 // What the lines of a listing say, from their words.
-ghost use Rattle.std.specs.Prelude.{◌≡◌, IfSome};
-ghost use Rattle.entries.specs.Lines.{SourceAt, LineSays, direction_word};
+ghost use Rattle.std.specs.Prelude.{◌≡◌, ℕ, IfSome};
+ghost use Rattle.entries.specs.Lines.{SourceAt, LineSays, SizeSaid, direction_word};
 ghost use Rattle.entries.specs.Texts.{word_at};
 
 use crate::entry::{Direction, Entry, Seat};
@@ -26,9 +26,9 @@ fn sources(words: &[&str]) -> Option<[Source; 4]> {
     Some([first, second, third, fourth])
 }
 
-// A line about a cell.
-fn cell_line<'a>(words: &[&'a str], line: usize) -> Option<Entry<'a>>
-    ensures { IfSome result (λ e. LineSays words.now line e) }
+// A line about a cell; it says the same whatever its number.
+fn cell_line<'a>(words: &[&'a str]) -> Option<Entry<'a>>
+    ensures { IfSome result (λ e. (line : ℕ) → LineSays words.now line e) }
 {
     match words {
         ["cell", cell, "table", table, "from", from @ ..] => Some(Entry::Table {
@@ -78,18 +78,25 @@ fn port_line<'a>(words: &[&'a str], direction: Direction, line: usize) -> Option
     }))
 }
 
+// The size of a fabric that three words say; a number that doesn't fit 64 bits counts as the largest that does.
+pub fn read_size(rows: &str, columns: &str, tracks: &str) -> Option<Size>
+    ensures { SizeSaid rows.now columns.now tracks.now result }
+{
+    Some(Size {
+        rows: decimal_or_most(rows)?,
+        columns: decimal_or_most(columns)?,
+        tracks: decimal_or_most(tracks)?,
+    })
+}
+
 // What the line of that number says, if it can be read.
 pub fn read_entry<'a>(words: &[&'a str], line: usize) -> Option<Entry<'a>>
     ensures { IfSome result (λ e. LineSays words.now line e) }
 {
     match words {
-        ["fabric", rows, columns, tracks] => Some(Entry::Fabric(Size {
-            rows: decimal_or_most(rows)?,
-            columns: decimal_or_most(columns)?,
-            tracks: decimal_or_most(tracks)?,
-        })),
+        ["fabric", rows, columns, tracks] => Some(Entry::Fabric(read_size(rows, columns, tracks)?)),
         ["in", ..] => port_line(words, Direction::In, line),
         ["out", ..] => port_line(words, Direction::Out, line),
-        _ => cell_line(words, line),
+        _ => cell_line(words),
     }
 }

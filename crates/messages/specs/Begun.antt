@@ -15,8 +15,8 @@ refused_text r = head_text (number_of r) (place_of r)
 
 abbrev pub refusal_in : Trouble → Refusal
 refusal_in (Bytes of line) = Text line
-refusal_in (Numbers line text) = Text line
-refusal_in (Listing line text formed) = Text line
-refusal_in (Stream line text inputs) = Text line
+refusal_in (Numbers line) = Text line.number
+refusal_in (Listing line formed) = Text line.number
+refusal_in (Stream line inputs) = Text line.number
 refusal_in (Size refusal text) = refusal
 refusal_in (Design refusal asked) = refusal

@@ -5,7 +5,8 @@ use design::refusal::Refusal;
 use fabric::size::Size;
 use std::fmt;
 
-// A number of a design; 0 past the end.
+// A number of a design; 0 past the end. `putting` has the same line: one for both would be a public function of a crate that both
+// name, which is no plainer.
 fn number_at(numbers: &[u64], place: usize) -> u64 {
     numbers.get(place).copied().unwrap_or(0)
 }

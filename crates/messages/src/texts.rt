@@ -1,4 +1,5 @@
 // Why a text can't be read. Lines are shown counted from 1.
+use crate::trouble::Line;
 use design::refusal::Refusal;
 use listings::parts::Port;
 use std::fmt;
@@ -12,13 +13,9 @@ const STANDING_HINT: &str =
     "an earlier line says it already, or the fabric hasn't got this cell or track, or has no edge there, or a lower bit of the word is missing";
 
 // A line that can't be read, and what it says.
-fn write_line<W: fmt::Write>(
-    f: &mut fmt::Formatter<W>,
-    line: u64,
-    of: &str,
-    text: &str,
-) -> fmt::Result {
-    let shown = line.saturating_add(1);
+fn write_line<W: fmt::Write>(f: &mut fmt::Formatter<W>, of: &str, line: Line) -> fmt::Result {
+    let shown = line.number.saturating_add(1);
+    let text = line.text;
     write!(f, "line {shown} of the {of} can't be read: {text:?}; ")
 }
 
@@ -34,22 +31,17 @@ pub(crate) fn write_bytes<W: fmt::Write>(
     )
 }
 
-pub(crate) fn write_numbers<W: fmt::Write>(
-    f: &mut fmt::Formatter<W>,
-    line: u64,
-    text: &str,
-) -> fmt::Result {
-    write_line(f, line, "design", text)?;
+pub(crate) fn write_numbers<W: fmt::Write>(f: &mut fmt::Formatter<W>, line: Line) -> fmt::Result {
+    write_line(f, "design", line)?;
     f.write_str(NUMBERS_HINT)
 }
 
 pub(crate) fn write_listing<W: fmt::Write>(
     f: &mut fmt::Formatter<W>,
-    line: u64,
-    text: &str,
+    line: Line,
     formed: bool,
 ) -> fmt::Result {
-    write_line(f, line, "listing", text)?;
+    write_line(f, "listing", line)?;
     f.write_str(if formed { STANDING_HINT } else { FORMS_HINT })
 }
 
@@ -67,11 +59,10 @@ fn write_inputs<W: fmt::Write>(f: &mut fmt::Formatter<W>, inputs: &[Port]) -> fm
 
 pub(crate) fn write_stream<W: fmt::Write>(
     f: &mut fmt::Formatter<W>,
-    line: u64,
-    text: &str,
+    line: Line,
     inputs: &[Port],
 ) -> fmt::Result {
-    write_line(f, line, "stream", text)?;
+    write_line(f, "stream", line)?;
     write_inputs(f, inputs)
 }
 

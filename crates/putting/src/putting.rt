@@ -1,4 +1,4 @@
-// A design in numbers put on a fabric, as a listing.
+// A design in numbers put on a fabric, as a listing: by `put`, or by `put_words`, which takes every sound design.
 ghost use Rattle.std.specs.Prelude.{◌≡◌, length, IfOk, Err, vec_len, MatchOption, slice_index};
 ghost use Rattle.fabric.specs.Code.{size_of};
 ghost use Rattle.fabric.specs.Numbers.{room_length};
@@ -8,7 +8,7 @@ ghost use Rattle.putting.specs.Refusing.{asked_refusal, expected};
 use crate::pinning::ports;
 use crate::unput::Unput;
 use crate::widths::{bits, input_widths, output_widths};
-use bitstream::{Made, put};
+use bitstream::{Made, put, put_words};
 use design::encoded::Encoded;
 use design::refusal::Refusal;
 use fabric::grid::Grid;
@@ -53,12 +53,16 @@ fn narrowed(heap: Global, numbers: &[u64]) -> Result<Vec<u16>, Unput>
 }
 
 // The room that a design takes; its pins are written.
-fn put_room(
+fn put_room<F>(
     heap: Global,
     grid: Grid,
     design: &[u16],
     pins: &mut [[u16; 3]],
+    put: F,
 ) -> Result<Vec<u16>, Unput>
+where
+    F: Fn(u64, u64, u64, &[u16], &mut [u16], &mut [u16]) -> Made,
+    requires { F.IsAlwaysCallable put }
     ensures { IfOk result (λ v. vec_len v ≡ room_length (size_of grid)) }
 {
     let mut room = Vec::from_elem(heap, 0, grid.room_len())?;
@@ -76,7 +80,10 @@ fn put_room(
 }
 
 // Puts a design that fits 16 bits on the grid.
-fn put_design(heap: Global, grid: Grid, design: &[u16]) -> Result<Listing, Unput>
+fn put_design<F>(heap: Global, grid: Grid, design: &[u16], put: F) -> Result<Listing, Unput>
+where
+    F: Fn(u64, u64, u64, &[u16], &mut [u16], &mut [u16]) -> Made,
+    requires { F.IsAlwaysCallable put }
     ensures { IfOk result (λ l. l.grid ≡ grid) }
 {
     let read = Encoded::new(design);
@@ -85,7 +92,7 @@ fn put_design(heap: Global, grid: Grid, design: &[u16]) -> Result<Listing, Unput
     let first_output = bits(ins.as_slice()).min(MOST_PINS);
     let needed = first_output.saturating_add(bits(outs.as_slice()));
     let mut pins = Vec::from_elem(heap, [0; 3], needed.min(MOST_PINS))?;
-    let room = put_room(heap, grid, design, pins.as_mut_slice())?;
+    let room = put_room(heap, grid, design, pins.as_mut_slice(), put)?;
     let inputs = ports(heap, "i", ins.as_slice(), pins.as_slice())?;
     let outputs = ports(heap, "o", outs.as_slice(), &pins[first_output..])?;
     Ok(Listing {
@@ -97,7 +104,10 @@ fn put_design(heap: Global, grid: Grid, design: &[u16]) -> Result<Listing, Unput
 }
 
 // The listing of a design on a fabric. The fabric is looked at first, then how many numbers there are, then each number.
-pub fn compiled(heap: Global, size: Size, numbers: &[u64]) -> Result<Listing, Unput>
+fn listed<F>(heap: Global, size: Size, numbers: &[u64], put: F) -> Result<Listing, Unput>
+where
+    F: Fn(u64, u64, u64, &[u16], &mut [u16], &mut [u16]) -> Made,
+    requires { F.IsAlwaysCallable put }
     ensures { MatchOption (asked_refusal size numbers.now) (IfOk result (λ l. size_of l.grid ≡ size)) (λ f. result ≡ Err (Turned f)) }
 {
     let grid = Grid::try_from(size)?;
@@ -106,5 +116,19 @@ pub fn compiled(heap: Global, size: Size, numbers: &[u64]) -> Result<Listing, Un
         return Err(Unput::from(Refusal::DesignLength { expected }));
     }
     let design = narrowed(heap, numbers)?;
-    put_design(heap, grid, design.as_slice())
+    put_design(heap, grid, design.as_slice(), put)
+}
+
+// The listing of a design of single bits, as `put` makes it.
+pub fn compiled(heap: Global, size: Size, numbers: &[u64]) -> Result<Listing, Unput>
+    ensures { MatchOption (asked_refusal size numbers.now) (IfOk result (λ l. size_of l.grid ≡ size)) (λ f. result ≡ Err (Turned f)) }
+{
+    listed(heap, size, numbers, put)
+}
+
+// The listing of any sound design, as `put_words` makes it.
+pub fn compiled_words(heap: Global, size: Size, numbers: &[u64]) -> Result<Listing, Unput>
+    ensures { MatchOption (asked_refusal size numbers.now) (IfOk result (λ l. size_of l.grid ≡ size)) (λ f. result ≡ Err (Turned f)) }
+{
+    listed(heap, size, numbers, put_words)
 }

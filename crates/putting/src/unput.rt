@@ -1,11 +1,11 @@
-// Why a design isn't put on a fabric.
+// Why a design isn't put on a fabric. The fault of the player is a type of its own, as the two crates don't know each other.
 ghost use Rattle.std.specs.Prelude.{◌≡◌};
 ghost use Rattle.putting.specs.declared.unput.Unput.TheVariants.{Memory, Turned};
 
 use design::refusal::Refusal;
 use std::alloc::{AllocError, AllocFailed};
 
-#[derive(Clone, Copy)]
+#[derive(Clone, Copy, PartialEq, Eq, Debug)]
 pub enum Unput {
     // there is no memory left
     Memory,

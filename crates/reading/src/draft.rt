@@ -26,7 +26,8 @@ pub(crate) struct Draft<'a> {
     ghost full: { vec_len room ≡ room_length (size_of grid) },
 }
 
-// Fills these slots; None if one of them is filled already, or there are none.
+// Fills these slots; None if one of them is filled already, or there are none. An option here and below, and no `Result`:
+// there is one reason only, and the line that it is an error of is known to the caller alone.
 fn fill(room: &mut [Option<u16>], start: usize, said: &[u16]) -> Option<()> {
     let slots = room.get_mut(start..start.saturating_add(said.len()))?;
     if slots.iter().any(|slot| slot.is_some()) {
@@ -122,15 +123,16 @@ impl<'a> Draft<'a> {
         ensures at { IfErr result (λ u. AtLine line u) }
     {
         let words = words(self.heap, text)?;
-        let said = match read_entry(words.as_slice(), line) {
+        let misplaced = Unread::misplaced(line);
+        match read_entry(words.as_slice(), line) {
             Some(
                 Entry::Table {
                     cell,
                     table,
                     sources,
                 },
-            ) => self.set_table(cell, table, sources),
-            Some(Entry::Holds { cell, initial }) => self.set_holds(cell, initial),
+            ) => self.set_table(cell, table, sources).ok_or(misplaced),
+            Some(Entry::Holds { cell, initial }) => self.set_holds(cell, initial).ok_or(misplaced),
             Some(
                 Entry::Drive {
                     cell,
@@ -138,16 +140,13 @@ impl<'a> Draft<'a> {
                     track,
                     source,
                 },
-            ) => self.set_drive(cell, side, track, source),
-            Some(Entry::Port(seat)) => return self.set_port(seat),
-            Some(Entry::Fabric(_)) | None => {
-                return Err(Unread::Line {
-                    line,
-                    formed: false,
-                });
-            }
-        };
-        said.ok_or(Unread::misplaced(line))
+            ) => self.set_drive(cell, side, track, source).ok_or(misplaced),
+            Some(Entry::Port(seat)) => self.set_port(seat),
+            Some(Entry::Fabric(_)) | None => Err(Unread::Line {
+                line,
+                formed: false,
+            }),
+        }
     }
 
     // The listing; what isn't said is 0.

@@ -5,7 +5,7 @@ ghost use Rattle.reading.specs.declared.unread.Unread.TheVariants.{Memory, Size,
 use design::refusal::Refusal;
 use std::alloc::{AllocError, AllocFailed};
 
-#[derive(Clone, Copy)]
+#[derive(Clone, Copy, PartialEq, Eq, Debug)]
 pub enum Unread {
     // there is no memory left
     Memory,

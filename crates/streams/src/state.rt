@@ -27,7 +27,8 @@ fn initial(heap: Global, listing: &Listing) -> Result<Vec<u8>, AllocError> {
         .collect(heap)
 }
 
-// Puts a number on the pins of an input, the low bit first.
+// Puts a number on the pins of an input, the low bit first. What is left of it is shifted bit by bit, since there is no shift by
+// 64 or more, and nothing here says that a port has fewer pins.
 fn put_input(pads: &mut [u8], grid: Grid, port: &Port, n: u64) {
     let mut rest = n;
     for pin in &port.pins {

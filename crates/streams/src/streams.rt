@@ -23,8 +23,7 @@ fn fits(n: u64, width: usize) -> bool
 fn number_of(word: &str, width: usize) -> Option<u64>
     ensures { IfSome result (λ n. IsNumeral 10 word.now × (n ≡ digits_value 10 word.now) × (n < 2 ^ width)) }
 {
-    let n = decimal(word)?;
-    if fits(n, width) { Some(n) } else { None }
+    decimal(word).filter(|n| fits(*n, width))
 }
 
 // The word behind a name, which stands at an even place.

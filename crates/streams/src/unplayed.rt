@@ -5,7 +5,7 @@ ghost use Rattle.streams.specs.declared.unplayed.Unplayed.TheVariants.{Memory, T
 use design::refusal::Refusal;
 use std::alloc::{AllocError, AllocFailed};
 
-#[derive(Clone, Copy)]
+#[derive(Clone, Copy, PartialEq, Eq, Debug)]
 pub enum Unplayed {
     // there is no memory left
     Memory,
