@@ -2,9 +2,6 @@ use Rattle.std.proofs.Common.{arith}
 use Rattle.netlist.proofs.Laying.{asked_small, first_call, second_call, third_call, build_call, done}
 use Rattle.netlist.proofs.lowering.+lay.Goals as goal
 
-pub has-requires : goal.has-requires
-has-requires t c = asked_small _ _ _ _ c.requires c.in-Some.is
-
 pub lay-requires : goal.lay-requires
 lay-requires t c =
     let p = first_call _ _ _ _ _ _ c.requires c.in-Some.is c.node-found.ensures.is c.operands_of-operands.ensures in
