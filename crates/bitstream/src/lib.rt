@@ -16,7 +16,7 @@ use crate::plans::Plan;
 use design::refusal::Refusal;
 use fabric::size::Size;
 
-// What `put` answers. It stays an enum of its own, and no `Result`, since C reads it.
+// What `put` answers. It stays an enum of its own, and no `Result`, so that C can read it.
 #[derive(Clone, Copy, PartialEq, Eq, Debug)]
 pub enum Made {
     // the room holds the fabric's bits, and the pins are written
@@ -26,7 +26,7 @@ pub enum Made {
 }
 
 // Puts a design in numbers on a fabric of so many columns (`across`), rows (`down`) and tracks: single bits, inputs, registers, and, xor,
-// and one row. The parameters stand alone since C calls it.
+// and one row. The parameters stand alone so that C can call it.
 pub fn put(
     across: u64,
     down: u64,

@@ -66,7 +66,8 @@ struct Outputs {
     ghost few: { bits < 2 ^ 32 },
 }
 
-// The bits and the cells of all outputs, or the first that isn't sound. A loop, as for the inputs: a chain would be no plainer, since it would search first and then go over them again for each sum.
+// The bits and the cells of all outputs, or the first that isn't sound. A loop, as for the registers and the inputs: a chain would be no
+// plainer, since it would search first and then go over them again for each sum.
 fn check_outputs(analysis: &Analysis<'_>) -> Result<Outputs, u16>
     ensures { MatchResult result
         (λ counts. (first_failing (output_sound (design_of analysis.now.design)) (design_of analysis.now.design).outputs ≡ None)

@@ -13,7 +13,7 @@ use design::refusal::Refusal;
 // The most cells and tracks that a fabric has together.
 const SIGNALS: usize = 32000;
 
-// What a tick answers. The C interface needs an enum of its own here, in place of a `Result`.
+// What a tick answers. It stays an enum of its own, and no `Result`, so that C can read it.
 #[derive(Clone, Copy, PartialEq, Eq, Debug)]
 pub enum Done {
     // the fabric settled, and the held bits and outputs are written
@@ -24,7 +24,7 @@ pub enum Done {
     Turned(Refusal),
 }
 
-// Plays one tick on a fabric of so many columns (`across`), rows (`down`) and tracks. The C interface needs the three numbers apart.
+// Plays one tick on a fabric of so many columns (`across`), rows (`down`) and tracks. The three numbers stand alone so that C can call it.
 pub fn tick(
     across: u64,
     down: u64,

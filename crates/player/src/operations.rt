@@ -26,7 +26,8 @@ pub(crate) fn low_bits(n: u64, width: Width) -> u64
     joined(width, |k| bit(n, k))
 }
 
-// The sum of two words, cut at a width. The carry goes from bit to bit, so this is a loop of its own: a closure that changes what it captures is no plainer.
+// The sum of two words, cut at a width. The carry goes from bit to bit, so this is a loop of its own: a closure that changes what it
+// captures is no plainer.
 pub(crate) fn sum(a: u64, b: u64, width: Width) -> u64
     ensures { result ≡ number width.bits (sum_word (word a) (word b)) }
 {
