@@ -1,5 +1,5 @@
 -- The expression of a node, from those of the nodes that it names.
-use Rattle.std.proofs.Common.{◌≡◌, ℕ, zero, suc, ◌<◌, Bool, true, false, ◌&&◌, ltb, List, Some, None, Option, refl, ◌∙◌, arith}
+use Rattle.std.proofs.Common.{◌≡◌, ℕ, zero, suc, ◌<◌, Bool, true, false, ◌&&◌, ltb, List, Some, None, Option, unwrap_or, refl, ◌∙◌, arith}
 use Rattle.std.proofs.lemmas.Bool.{ltb-true, and_parts, false≢true}
 use Rattle.design.specs.declared.node.Node.{Node}
 use Rattle.design.specs.declared.node.Node.TheVariants.{Input, Register, Constant, And, Or, Xor, Not, Add, Less, Equal, Mux, Slice, Concat}
@@ -95,3 +95,8 @@ node_ok_none xs n h = none_at n (node_in xs n) h
 
 pub node_there : (xs : List ℕ) → reading_refusal xs ≡ None → (n : ℕ) → n < nodes_of xs → node_in xs n ≡ None → ⊥
 node_there xs ok n l h = false≢true (node_ok_none xs n h ∙ (readable xs ok).nodes n l)
+
+-- what a node is, or another where there is none
+pub some_or : (o : Option Node) (other : Node) → (o ≡ None → ⊥) → o ≡ Some (unwrap_or o other)
+some_or None other h = absurd (h refl)
+some_or (Some node) other h = refl

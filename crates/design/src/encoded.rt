@@ -116,9 +116,6 @@ impl<'a> Encoded<'a> {
         ensures is { n < nodes_of self.entry.numbers.now → node_in self.entry.numbers.now n ≡ Some result }
         ensures below { n < nodes_of self.entry.numbers.now → names_below n result ≡ true }
     {
-        match layout::node(self.numbers, n) {
-            Some(node) => node,
-            None => Node::Input(0),
-        }
+        layout::node(self.numbers, n).unwrap_or(Node::Input(0))
     }
 }

@@ -28,6 +28,7 @@ fn names_below(n: u16, node: Node) -> bool
     }
 }
 
+// A match: with `is_some_and`, which was tried, the proof of what the closure answers didn't close.
 fn node_ok(numbers: &[u16], n: u16) -> bool
     ensures { result ≡ node_ok numbers.now n }
 {

@@ -29,7 +29,8 @@ fn register_cost(analysis: &Analysis<'_>, k: u16) -> Option<u32>
     register_fits(register, next).then(|| capped(next.cells, register.width as u32))
 }
 
-// The cells of all registers, or the first that isn't sound.
+// The cells of all registers, or the first that isn't sound: its number alone, which `check` makes a refusal, since a place counts the
+// parts before it too.
 fn check_registers(analysis: &Analysis<'_>) -> Result<u32, u16>
     ensures { MatchResult result
         (λ cells. (first_failing (register_sound (design_of analysis.now.design)) (design_of analysis.now.design).registers ≡ None)

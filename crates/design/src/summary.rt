@@ -3,6 +3,8 @@ ghost use Rattle.std.specs.Prelude.{◌≡◌, ◌+◌, ◌*◌, ◌≤◌, min,
 
 pub(crate) const CAP: u32 = 65536;
 
+// A flag beside the two, and no `Option` of them: an operation works out its width and its cells from those of its operands whether they
+// are well-formed or not, and an `Option` would be taken apart in each.
 #[derive(Clone, Copy, Default)]
 pub(crate) struct Summary {
     pub(crate) width: u16,

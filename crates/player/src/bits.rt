@@ -2,7 +2,8 @@
 ghost use Rattle.std.specs.Prelude.{◌≡◌, ◌+◌, ◌^◌, ◌<◌};
 ghost use Rattle.design.specs.Designs.{Word, number, word};
 
-// Bit k of a number, the low one first; past the 64th there are none.
+// Bit k of a number, the low one first; past the 64th there are none. Lowering has the same of 16 bits: one for both would be a public
+// function of a crate below both, for a line, which is no plainer.
 pub(crate) fn bit(n: u64, k: u32) -> bool
     ensures { result ≡ word n k }
 {

@@ -4,6 +4,7 @@ ghost use Rattle.design.specs.Designs.{word, less_below, equal_below};
 
 use crate::bits::bit;
 
+// Two flags, and no `Ordering`: the definitions say each of the two bit by bit, and an `Ordering` would be put together and taken apart.
 #[derive(Clone, Copy)]
 pub(crate) struct Comparison {
     pub(crate) less: bool,

@@ -66,7 +66,8 @@ impl Tick<'_> {
         }
     }
 
-    // The words of all nodes. Each comes from those before it, so they are written by their places: `iter_mut` would lend all of them.
+    // The words of all nodes. Each comes from those before it, so they are written by their places: `iter_mut` would lend all of them. An
+    // array, and no `Vec`: it is no longer than the most nodes, and can't fail for want of memory.
     pub(crate) fn table(self) -> [u64; 1024]
         ensures { let t = self.entry in Tabled (list_of t.analysis.now.design) t.inputs.now t.registers.now result }
     {

@@ -1,18 +1,14 @@
 use Rattle.std.proofs.Common.{sym, ◌∙◌}
 use Rattle.design.proofs.Reading.{not_refused}
-use Rattle.design.proofs.Exprs.{operands_below, node_there}
+use Rattle.design.proofs.Exprs.{operands_below, node_there, some_or}
 use Rattle.design.proofs.encoded.Encoded.node.Goals as goal
 
-pub returns-in-Some : goal.returns-in-Some
-returns-in-Some c =
-    let is = sym c.node.ensures ∙ c.in-Some.is in
-    record {
-      is = λ l. is;
-      below = λ l. operands_below _ (not_refused c.args.self.numbers.now c.args.self.readable) c.args.n l c.in-Some.node is;
-    }
-
-pub returns-in-None : goal.returns-in-None
-returns-in-None c =
-    let is = sym c.node.ensures ∙ c.in-None.is in
+pub returns-clause-is : goal.returns-clause-is
+returns-clause-is c l =
     let ok = not_refused c.args.self.numbers.now c.args.self.readable in
-    record { is = λ l. absurd (node_there _ ok c.args.n l is); below = λ l. absurd (node_there _ ok c.args.n l is) }
+    rw c.unwrap_or.ensures (sym c.node.ensures ∙ some_or _ _ (λ e. node_there _ ok c.args.n l (sym c.node.ensures ∙ e)))
+
+pub returns-clause-below : goal.returns-clause-below
+returns-clause-below c l =
+    let ok = not_refused c.args.self.numbers.now c.args.self.readable in
+    rw c.unwrap_or.ensures (operands_below _ ok c.args.n l _ (sym c.node.ensures ∙ some_or _ _ (λ e. node_there _ ok c.args.n l (sym c.node.ensures ∙ e))))
