@@ -46,7 +46,7 @@ pub fn put(
     carry_out(planned, room, pins)
 }
 
-// The same of any sound design, of words of up to 64 bits, and any fabric.
+// The same of any sound design, of words of up to 64 bits, and any fabric; C is to call it in the place of `put`.
 pub fn put_words(
     across: u64,
     down: u64,

@@ -10,6 +10,7 @@ use crate::lookup::at;
 use crate::pass;
 use crate::summary::Summary;
 
+// An array with a place for each node that there may be, since there is no heap here.
 #[derive(Drop)]
 pub struct Analysis<'a> {
     pub design: Encoded<'a>,

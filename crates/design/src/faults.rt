@@ -38,6 +38,9 @@ fn node_ok(numbers: &[u16], n: u16) -> bool
     }
 }
 
+// Three searches, of nodes, registers and outputs: the library's `find` is what they share, and a function of their own over it would be no
+// plainer, since it would have to hand its test on.
+
 // The first node of no kind, or that names a node that is not earlier.
 fn bad_node(numbers: &[u16]) -> Option<u16>
     ensures { result ≡ first_failing (node_ok numbers.now) (nodes_of numbers.now) }

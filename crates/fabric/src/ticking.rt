@@ -69,7 +69,7 @@ fn checked(size: Size, bits: &[u16], held: &[u8], pads: &[u8], outs: &[u8]) -> R
     Ok(grid)
 }
 
-// Settles the fabric, and then writes what it holds and shows.
+// Settles the fabric, and then writes what it holds and shows. Two arrays that are cut to the fabric's signals, since there is no heap here.
 fn play(wiring: Wiring, kept: &mut [u8], outs: &mut [u8]) -> Done
     requires held { length kept.old ≡ cell_count (grid_of wiring) }
     requires outs { length outs.old ≡ pads_length (grid_of wiring) }
