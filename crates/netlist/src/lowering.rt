@@ -70,7 +70,8 @@ struct Task<'a> {
     ghost lowerable: { Lowerable (list_of analysis.design) },
 }
 
-// The cells of the registers, each with the net of the bit that it becomes.
+// The cells of the registers, each with the net of the bit that it becomes. A `for` and no chain, since each turn changes the work that
+// the next one reads; it sums by hand, since it lays out too, and the sum is the place of the next register's cells.
 fn lay_registers(task: &Task<'_>, work: &mut Work)
     requires { RegistersIn (list_of task.now.analysis.design) work.old 0 }
     ensures { RegistersIn (list_of task.now.analysis.design) work.new (design_of task.now.analysis.design).registers }
@@ -91,7 +92,7 @@ fn lay_registers(task: &Task<'_>, work: &mut Work)
     }
 }
 
-// The cells of the outputs, each of which passes a bit on.
+// The cells of the outputs, each of which passes a bit on. A `for` that sums, as above; the sum is the place of the next output's bits.
 fn lay_outputs(task: &Task<'_>, work: &mut Work)
     requires { OutputsIn (list_of task.now.analysis.design) work.old 0 }
     ensures { OutputsIn (list_of task.now.analysis.design) work.new (design_of task.now.analysis.design).outputs }
