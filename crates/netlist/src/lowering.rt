@@ -44,6 +44,7 @@ fn build(analysis: &Analysis<'_>, work: &mut Work, n: u16, node: Node) -> Bus
 }
 
 // Lays a node out, unless it is laid out already; no node is laid out at once. A node names earlier nodes only, so the recursion ends.
+// Three calls and no loop over the operands, which would have to say what the calls before had laid out.
 fn lay(analysis: &Analysis<'_>, work: &mut Work, node: Option<u16>)
     requires { LayAsks (list_of analysis.now.design) work.old node }
     ensures { LayGives (list_of analysis.now.design) work.old work.new node }
@@ -55,10 +56,10 @@ fn lay(analysis: &Analysis<'_>, work: &mut Work, node: Option<u16>)
         return;
     }
     let found = analysis.design.node(n);
-    let operands = operands_of(found);
-    lay(analysis, work, operands.first);
-    lay(analysis, work, operands.second);
-    lay(analysis, work, operands.third);
+    let [first, second, third] = operands_of(found);
+    lay(analysis, work, first);
+    lay(analysis, work, second);
+    lay(analysis, work, third);
     let bus = build(analysis, work, n, found);
     work.note(n, bus);
 }
