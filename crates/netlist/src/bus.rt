@@ -7,7 +7,7 @@ use crate::parts::Net;
 use std::array;
 
 // The low bit first. Nets past the word's width are of no account. A bus is put together without a cell.
-// A place for each bit of the widest word and no vector: there is no heap here, and who reads a bus knows the width.
+// A place for each bit of the widest word, since there is no heap here, and no length: who reads a bus knows the width.
 #[derive(Clone, Copy)]
 pub(crate) struct Bus {
     pub(crate) nets: [Net; 64],
