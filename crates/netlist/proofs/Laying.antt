@@ -10,12 +10,11 @@ use Rattle.design.proofs.Exprs.{operands_below, expr_at_node}
 use Rattle.design.proofs.Reading.{readable}
 use Rattle.netlist.specs.declared.parts.Net.{Net}
 use Rattle.netlist.specs.declared.bus.Bus.{Bus}
-use Rattle.netlist.specs.declared.operands.Operands.{Operands}
 use Rattle.netlist.specs.declared.work.Work.{Work}
 use Rattle.netlist.specs.Building.{Cells, CarriesWord}
 use Rattle.netlist.specs.Rows.{no_bus, net_of}
 use Rattle.netlist.specs.Works.{count_of, cells_of, nets_at, is_laid}
-use Rattle.netlist.specs.Lowerings.{expr_in, operands_of, own_cells, Lowerable, NodeOk, cells_for, NodeLaid, height, LayAsks, LayGives, BuildAsks, BuildGives}
+use Rattle.netlist.specs.Lowerings.{expr_in, operands_of, operand_list, own_cells, Lowerable, NodeOk, cells_for, NodeLaid, height, LayAsks, LayGives, BuildAsks, BuildGives}
 use Rattle.netlist.proofs.Growing.{grows_refl, grows_trans, grows_word}
 use Rattle.netlist.proofs.Steps.{choice_width, slice_width}
 
@@ -192,8 +191,8 @@ module _ (xs : List ℕ) (w : Work) (n : ℕ) (node : Node) (a : LayAsks xs w (S
             outputs = b.notes.outputs ∙ g₃.outputs ∙ g₂.outputs ∙ g₁.outputs;
           }
 
--- the same, of the values that the code has
-module _ (xs : List ℕ) (w : Work) (o : Option ℕ) (n : ℕ) (node : Node) (ops : Operands) (a : LayAsks xs w o) (some : o ≡ Some n) (found : n < nodes_of xs → node_in xs n ≡ Some node) (e : ops ≡ operands_of node) where
+-- the same, of the values that the code has: the nodes that a node names are a list there
+module _ (xs : List ℕ) (w : Work) (o : Option ℕ) (n : ℕ) (node : Node) (ops : List (Option ℕ)) (a : LayAsks xs w o) (some : o ≡ Some n) (found : n < nodes_of xs → node_in xs n ≡ Some node) (e : ops ≡ operand_list (operands_of node)) where
   asked : LayAsks xs w (Some n)
   asked = rw some at a
 
@@ -203,24 +202,24 @@ module _ (xs : List ℕ) (w : Work) (o : Option ℕ) (n : ℕ) (node : Node) (op
   pub within : n < 1024
   within = node_small xs n a.lowerable asked.there.0
 
-  pub first_call : (height ops.first < height o) × LayAsks xs w ops.first
+  pub first_call : (height (get_or ops 0 None) < height o) × LayAsks xs w (get_or ops 0 None)
   first_call = rw (e, some) (first_lower xs w n node asked is_node, first_asks xs w n node asked is_node)
 
-  module _ (w₁ : Work) (g₁ : LayGives xs w w₁ ops.first) where
+  module _ (w₁ : Work) (g₁ : LayGives xs w w₁ (get_or ops 0 None)) where
     laid₁ : LayGives xs w w₁ (operands_of node).first
     laid₁ = rw e at g₁
 
-    pub second_call : (height ops.second < height o) × LayAsks xs w₁ ops.second
+    pub second_call : (height (get_or ops 1 None) < height o) × LayAsks xs w₁ (get_or ops 1 None)
     second_call = rw (e, some) (second_lower xs w n node asked is_node, second_asks xs w n node asked is_node w₁ laid₁)
 
-    module _ (w₂ : Work) (g₂ : LayGives xs w₁ w₂ ops.second) where
+    module _ (w₂ : Work) (g₂ : LayGives xs w₁ w₂ (get_or ops 1 None)) where
       laid₂ : LayGives xs w₁ w₂ (operands_of node).second
       laid₂ = rw e at g₂
 
-      pub third_call : (height ops.third < height o) × LayAsks xs w₂ ops.third
+      pub third_call : (height (get_or ops 2 None) < height o) × LayAsks xs w₂ (get_or ops 2 None)
       third_call = rw (e, some) (third_lower xs w n node asked is_node, third_asks xs w n node asked is_node w₁ laid₁ w₂ laid₂)
 
-      module _ (w₃ : Work) (g₃ : LayGives xs w₂ w₃ ops.third) where
+      module _ (w₃ : Work) (g₃ : LayGives xs w₂ w₃ (get_or ops 2 None)) where
         laid₃ : LayGives xs w₂ w₃ (operands_of node).third
         laid₃ = rw e at g₃
 

@@ -1,6 +1,6 @@
 -- What laying out a node asks and gives, and which designs are lowered.
 -- Only proofs use these definitions: no promise to a user names them, but for the refusals.
-use Rattle.std.specs.Prelude.{◌≡◌, ℕ, ◌+◌, ◌*◌, ◌<◌, ◌≤◌, min, true, List, IfSome, Some, None, Option, nat_lt, slice_index}
+use Rattle.std.specs.Prelude.{◌≡◌, ℕ, ◌+◌, ◌*◌, ◌<◌, ◌≤◌, min, true, List, [], ◌∷◌, IfSome, Some, None, Option, nat_lt, slice_index}
 use Rattle.std.specs.Option.{option_or}
 use Rattle.std.specs.Bool.{then_some}
 use Rattle.design.specs.declared.refusal.Refusal.{Refusal}
@@ -10,7 +10,6 @@ use Rattle.design.specs.declared.node.Node.TheVariants.{Input, Register, Constan
 use Rattle.design.specs.Designs.{Expr, Design, Sound, width, well_formed, cells, total, plain_cells, plain_tracks}
 use Rattle.design.specs.Numbers.{nodes_of, node_in, expr_at, design_in, reading_refusal, soundness_refusal}
 use Rattle.netlist.specs.declared.bus.Bus.{Bus}
-use Rattle.netlist.specs.declared.operands.Operands.{Operands}
 use Rattle.netlist.specs.declared.work.Work.{Work}
 use Rattle.netlist.specs.declared.netlists.Netlist.{Netlist as NetlistT}
 use Rattle.netlist.specs.Netlists.{Netlist}
@@ -24,7 +23,15 @@ use Rattle.netlist.specs.Works.{count_of, cells_of, nets_at, is_laid, outs_of, S
 abbrev pub expr_in : List ℕ → ℕ → Expr
 expr_in xs n = expr_at xs (nodes_of xs) n
 
--- the nodes that a node names
+-- the nodes that a node names: at most three, in the order in which they are laid out
+pub record Operands : Type 0 where
+  pub first : Option ℕ
+  pub second : Option ℕ
+  pub third : Option ℕ
+
+abbrev pub operand_list : Operands → List (Option ℕ)
+operand_list o = o.first ∷ o.second ∷ o.third ∷ []
+
 abbrev pub operands_of : Node → Operands
 operands_of (Input i) = record { first = None; second = None; third = None }
 operands_of (Register r) = record { first = None; second = None; third = None }

@@ -7,6 +7,7 @@ use crate::parts::Net;
 use std::array;
 
 // The low bit first. Nets past the word's width are of no account. A bus is put together without a cell.
+// A place for each bit of the widest word, since there is no heap here, and no length: who reads a bus knows the width.
 #[derive(Clone, Copy)]
 pub(crate) struct Bus {
     pub(crate) nets: [Net; 64],
@@ -17,7 +18,7 @@ impl Bus {
     pub(crate) fn net(self, k: usize) -> Net
         ensures { result ≡ net_of self k }
     {
-        if k < 64 { self.nets[k] } else { Net::Zero }
+        self.nets.get(k).copied().unwrap_or(Net::Zero)
     }
 
     // No net at any bit: the number 0.

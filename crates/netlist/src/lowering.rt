@@ -44,6 +44,7 @@ fn build(analysis: &Analysis<'_>, work: &mut Work, n: u16, node: Node) -> Bus
 }
 
 // Lays a node out, unless it is laid out already; no node is laid out at once. A node names earlier nodes only, so the recursion ends.
+// Three calls and no loop over the operands, which would have to say what the calls before had laid out.
 fn lay(analysis: &Analysis<'_>, work: &mut Work, node: Option<u16>)
     requires { LayAsks (list_of analysis.now.design) work.old node }
     ensures { LayGives (list_of analysis.now.design) work.old work.new node }
@@ -55,10 +56,10 @@ fn lay(analysis: &Analysis<'_>, work: &mut Work, node: Option<u16>)
         return;
     }
     let found = analysis.design.node(n);
-    let operands = operands_of(found);
-    lay(analysis, work, operands.first);
-    lay(analysis, work, operands.second);
-    lay(analysis, work, operands.third);
+    let [first, second, third] = operands_of(found);
+    lay(analysis, work, first);
+    lay(analysis, work, second);
+    lay(analysis, work, third);
     let bus = build(analysis, work, n, found);
     work.note(n, bus);
 }
@@ -70,7 +71,8 @@ struct Task<'a> {
     ghost lowerable: { Lowerable (list_of analysis.design) },
 }
 
-// The cells of the registers, each with the net of the bit that it becomes.
+// The cells of the registers, each with the net of the bit that it becomes. A `for` and no chain, since each turn changes the work that
+// the next one reads; it sums by hand, since it lays out too, and the sum is the place of the next register's cells.
 fn lay_registers(task: &Task<'_>, work: &mut Work)
     requires { RegistersIn (list_of task.now.analysis.design) work.old 0 }
     ensures { RegistersIn (list_of task.now.analysis.design) work.new (design_of task.now.analysis.design).registers }
@@ -91,7 +93,7 @@ fn lay_registers(task: &Task<'_>, work: &mut Work)
     }
 }
 
-// The cells of the outputs, each of which passes a bit on.
+// The cells of the outputs, each of which passes a bit on. A `for` that sums, as above; the sum is the place of the next output's bits.
 fn lay_outputs(task: &Task<'_>, work: &mut Work)
     requires { OutputsIn (list_of task.now.analysis.design) work.old 0 }
     ensures { OutputsIn (list_of task.now.analysis.design) work.new (design_of task.now.analysis.design).outputs }

@@ -7,6 +7,7 @@ use crate::parts::Cell;
 use arrayvec::ArrayVec;
 
 // The cells, and for each output bit the cell that shows it. It is cloned and not copied, since its vector is no `Copy`.
+// The output bits have a place each and no `ArrayVec`, whose length would say again what the design says.
 #[derive(Clone, Drop)]
 pub struct Netlist {
     cells: ArrayVec<Cell, 1024>,

@@ -1,51 +1,19 @@
 // The nodes that a node names.
 ghost use Rattle.std.specs.Prelude.{◌≡◌};
-ghost use Rattle.netlist.specs.Lowerings.{operands_of};
+ghost use Rattle.netlist.specs.Lowerings.{operands_of, operand_list};
 
 use design::node::Node;
 
-// At most three, in the order in which they are laid out. Three fields and not an array: laying out is a call for each, and an array
-// would take a loop that has to say what the calls before it laid out.
-#[derive(Clone, Copy)]
-pub(crate) struct Operands {
-    pub first: Option<u16>,
-    pub second: Option<u16>,
-    pub third: Option<u16>,
-}
-
-pub(crate) fn operands_of(node: Node) -> Operands
-    ensures { result ≡ operands_of node }
+// At most three, in the order in which they are laid out.
+pub(crate) fn operands_of(node: Node) -> [Option<u16>; 3]
+    ensures { result ≡ operand_list (operands_of node) }
 {
     match node {
-        Node::Input(_) | Node::Register(_) | Node::Constant { .. } => Operands {
-            first: None,
-            second: None,
-            third: None,
-        },
-        Node::Not(a) | Node::Slice { of: a, .. } => Operands {
-            first: Some(a),
-            second: None,
-            third: None,
-        },
-        Node::And(a, b) | Node::Or(a, b) | Node::Xor(a, b) => Operands {
-            first: Some(a),
-            second: Some(b),
-            third: None,
-        },
-        Node::Add(a, b) | Node::Less(a, b) | Node::Equal(a, b) => Operands {
-            first: Some(a),
-            second: Some(b),
-            third: None,
-        },
-        Node::Concat { high, low } => Operands {
-            first: Some(high),
-            second: Some(low),
-            third: None,
-        },
-        Node::Mux { choice, one, zero } => Operands {
-            first: Some(choice),
-            second: Some(one),
-            third: Some(zero),
-        },
+        Node::Input(_) | Node::Register(_) | Node::Constant { .. } => [None; 3],
+        Node::Not(a) | Node::Slice { of: a, .. } => [Some(a), None, None],
+        Node::And(a, b) | Node::Or(a, b) | Node::Xor(a, b) => [Some(a), Some(b), None],
+        Node::Add(a, b) | Node::Less(a, b) | Node::Equal(a, b) => [Some(a), Some(b), None],
+        Node::Concat { high, low } => [Some(high), Some(low), None],
+        Node::Mux { choice, one, zero } => [Some(choice), Some(one), Some(zero)],
     }
 }

@@ -13,7 +13,8 @@ pub enum Net {
 }
 
 // A cell of four inputs: bit k of the table is what it looks up where its inputs say k. A cell that holds shows what it held, and
-// what it looks up is what it holds next.
+// what it looks up is what it holds next. A flag and a bit, and not an `Option`: a bitstream has a place for each, and what a cell that
+// doesn't hold holds at first is written all the same, as 0.
 #[derive(Clone, Copy)]
 pub struct Cell {
     pub table: u16,

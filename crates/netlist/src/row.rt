@@ -16,7 +16,7 @@ pub(crate) fn bit(value: u16, k: u16) -> bool
 pub(crate) fn constant(value: u16, k: u16) -> Cell
     ensures { result ≡ constant_row (word value) k }
 {
-    let table = if bit(value, k) { 1 } else { 0 };
+    let table = u16::from(bit(value, k));
     Cell::gate(table, Net::Zero, Net::Zero)
 }
 

@@ -7,9 +7,5 @@ pub(crate) fn bits_before<F: Fn(u16) -> u16>(word: u16, width: F) -> u16
     requires { F.IsAlwaysCallable width }
     ensures { (widths : ℕ → ℕ) → ((j w : ℕ) → j < word → F.post width j w → w ≡ widths j) → result ≡ min 65535 (total word widths) }
 {
-    let mut bits: u16 = 0;
-    for j in 0..word {
-        bits = bits.saturating_add(width(j));
-    }
-    bits
+    (0..word).fold(0, |bits, j| bits.saturating_add(width(j)))
 }

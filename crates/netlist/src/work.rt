@@ -9,6 +9,8 @@ use arrayvec::ArrayVec;
 
 // The cells so far, registers first; the nets of each node that is laid out; the cells of the output bits so far.
 // The registers' cells show 0 till they are written, which is last.
+// A place for each node and no map, since there is no heap here; a place for each output bit and no `ArrayVec`, whose length would say
+// again what the design says.
 #[derive(Drop)]
 pub(crate) struct Work {
     pub cells: ArrayVec<Cell, 1024>,
