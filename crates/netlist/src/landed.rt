@@ -30,6 +30,7 @@ fn first_other(design: Encoded<'_>) -> Option<u16>
     (0..design.nodes()).find(|n| !node_landed(design, *n))
 }
 
+// Two tests, of inputs and of registers: the library's `any` is what they share, as `find` is for the first node.
 fn wide_input(design: Encoded<'_>) -> bool
     ensures { result ≡ is_some (first_failing (input_single design.entry.numbers.now) (inputs_of design.entry.numbers.now)) }
 {

@@ -10,7 +10,7 @@ pub(crate) fn bit(n: u64, k: u32) -> bool
     k < 64 && (n >> k) % 2 == 1
 }
 
-// One more bit on top of the k bits that a word was built of so far. An `if`, since it is the sum that depends on the bit.
+// One more bit on top of the k bits that a word was built of so far. A bit that is 0 adds nothing.
 pub(crate) fn with_bit(n: u64, k: u32, top: bool) -> u64
     requires small { n < 2 ^ k }
     requires room { k < 64 }

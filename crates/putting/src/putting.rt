@@ -103,7 +103,8 @@ where
     })
 }
 
-// The listing of a design on a fabric. The fabric is looked at first, then how many numbers there are, then each number.
+// The listing of a design on a fabric. The fabric is looked at first, then how many numbers there are, then each number. Each function that
+// hands `put` on asks that it may be called, and the two public ones promise what this one does, word for word: so a reader has it at each.
 fn listed<F>(heap: Global, size: Size, numbers: &[u64], put: F) -> Result<Listing, Unput>
 where
     F: Fn(u64, u64, u64, &[u16], &mut [u16], &mut [u16]) -> Made,

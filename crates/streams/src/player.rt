@@ -10,7 +10,7 @@ use listings::parts::Listing;
 use std::alloc::Global;
 use words::cutting::lines;
 
-// What a fabric shows tick by tick. It ends where the fabric doesn't settle.
+// What a fabric shows tick by tick. It ends where the fabric doesn't settle. `Done` is no `Result`, so a refusal goes on by hand.
 fn shown(heap: Global, listing: &Listing, ticks: &[Vec<u64>]) -> Result<String, Unplayed> {
     let mut out = String::new(heap);
     let mut state = State::new(heap, listing)?;
