@@ -13,7 +13,7 @@ use std::alloc::{AllocError, Global};
 use streams::player::play;
 use streams::unplayed::Unplayed;
 
-// Why a stream isn't played; want of memory goes on.
+// Why a stream isn't played. A match, and no `?`: want of memory goes on, and the others are said.
 fn unplayed<'a>(
     listing: &'a Listing,
     text: &'a str,
@@ -54,7 +54,7 @@ fn play_bytes(heap: Global, listing: &Listing, stream: &[u8]) -> Result<Said, Al
     }
 }
 
-// Why a listing isn't read; want of memory goes on.
+// Why a listing isn't read. A match for the same reason.
 fn unread(text: &str, why: Unread) -> Result<Trouble, AllocError> {
     match why {
         Unread::Memory => Err(AllocError),

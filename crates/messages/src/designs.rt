@@ -1,15 +1,10 @@
 // Why a design can't be put on a fabric.
 use crate::texts::size_hint;
 use crate::trouble::Asked;
+use design::lookup::at;
 use design::refusal::Refusal;
 use fabric::size::Size;
 use std::fmt;
-
-// A number of a design; 0 past the end. `putting` has the same line: one for both would be a public function of a crate that both
-// name, which is no plainer.
-fn number_at(numbers: &[u64], place: usize) -> u64 {
-    numbers.get(place).copied().unwrap_or(0)
-}
 
 // A size that there isn't.
 fn write_size<W: fmt::Write>(
@@ -32,10 +27,10 @@ fn write_length<W: fmt::Write>(
     expected: u64,
 ) -> fmt::Result {
     let count = numbers.len();
-    let inputs = number_at(numbers, 0);
-    let registers = number_at(numbers, 1);
-    let outputs = number_at(numbers, 2);
-    let nodes = number_at(numbers, 3);
+    let inputs = at(numbers, 0);
+    let registers = at(numbers, 1);
+    let outputs = at(numbers, 2);
+    let nodes = at(numbers, 3);
     write!(
         f,
         "the design has {count} numbers and should have {expected}: 4 counts, then 1 for each of {inputs} inputs, 3 for each of {registers} registers, 1 for each of {outputs} outputs and 4 for each of {nodes} nodes"
@@ -47,8 +42,8 @@ fn write_name<W: fmt::Write>(
     numbers: &[u64],
     place: u64,
 ) -> fmt::Result {
-    let node = number_at(numbers, place as usize);
-    let nodes = number_at(numbers, 3);
+    let node = at(numbers, place as usize);
+    let nodes = at(numbers, 3);
     write!(
         f,
         "number {place} of the design, counted from 0, names node {node}, and there are {nodes} nodes, counted from 0"
@@ -67,7 +62,7 @@ fn write_content<W: fmt::Write>(
             "number {place} of the design, counted from 0, is above 65535"
         ),
         Refusal::TooManyNodes => {
-            let nodes = number_at(numbers, 3);
+            let nodes = at(numbers, 3);
             write!(f, "the design has {nodes} nodes, and 1024 is the most")
         }
         Refusal::BadNode { node } => write!(
@@ -84,7 +79,7 @@ fn write_soundness<W: fmt::Write>(
     refusal: Refusal,
     numbers: &[u64],
 ) -> fmt::Result {
-    let registers = number_at(numbers, 1);
+    let registers = at(numbers, 1);
     match refusal {
         Refusal::UnsoundRegister { register } => write!(
             f,
@@ -98,7 +93,7 @@ fn write_soundness<W: fmt::Write>(
             )
         }
         _ => {
-            let outputs = number_at(numbers, 2);
+            let outputs = at(numbers, 2);
             let input = refusal
                 .place()
                 .saturating_sub(registers)

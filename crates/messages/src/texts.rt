@@ -36,6 +36,7 @@ pub(crate) fn write_numbers<W: fmt::Write>(f: &mut fmt::Formatter<W>, line: Line
     f.write_str(NUMBERS_HINT)
 }
 
+// `formed` is the flag of a line that isn't read: two functions would differ in the hint alone.
 pub(crate) fn write_listing<W: fmt::Write>(
     f: &mut fmt::Formatter<W>,
     line: Line,

@@ -10,6 +10,7 @@ use crate::unput::Unput;
 use crate::widths::{bits, input_widths, output_widths};
 use bitstream::{Made, put, put_words};
 use design::encoded::Encoded;
+use design::lookup::at;
 use design::refusal::Refusal;
 use fabric::grid::Grid;
 use fabric::size::Size;
@@ -23,7 +24,7 @@ const MOST_PINS: usize = 65535;
 fn number_at(numbers: &[u64], place: usize) -> u64
     ensures { result ≡ slice_index numbers.now place }
 {
-    numbers.get(place).copied().unwrap_or(0)
+    at(numbers, place)
 }
 
 // How many numbers the design should have, as its counts say.

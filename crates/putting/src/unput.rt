@@ -1,4 +1,5 @@
-// Why a design isn't put on a fabric. The fault of the player is a type of its own, as the two crates don't know each other.
+// Why a design isn't put on a fabric. The player's `Fault` is alike; one type for both would be a public one of a crate below both, which is
+// no plainer.
 ghost use Rattle.std.specs.Prelude.{◌≡◌};
 ghost use Rattle.putting.specs.declared.unput.Unput.TheVariants.{Memory, Turned};
 
