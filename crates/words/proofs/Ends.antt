@@ -15,7 +15,7 @@ pub record Ended (c : ℕ) (text : List ℕ) (ps : List (Bor (List ℕ))) : Type
   pub none : length ps ≡ 0 → length text ≡ 0
   pub whole : ((text ≡ join_with_byte c (texts ps)) × (0 < length ps → 0 < length (piece_at ps (length ps - 1)))) ⊎ (text ≡ join_with_byte c (texts ps) ++ (c ∷ []))
 
-abbrev nothing : Bor (List ℕ)
+abbrev pub nothing : Bor (List ℕ)
 nothing = record { ref_ptr = (0, 0); now = [] }
 
 -- an empty piece more is the byte c more
@@ -25,7 +25,7 @@ join_more c p [] = refl
 join_more c p (q ∷ ps) =
     ap (λ (t : List ℕ). p.now ++ (c ∷ t)) (join_more c q ps) ∙ sym (append_assoc p.now (c ∷ join_with_byte c (texts (q ∷ ps))) (c ∷ []))
 
-lacks_nothing : (c : ℕ) → LacksByte c []
+pub lacks_nothing : (c : ℕ) → LacksByte c []
 lacks_nothing c k l = absurd (omega arith)
 
 lack_more : (c : ℕ) (ps : List (Bor (List ℕ))) → ((k : ℕ) (d : Bor (List ℕ)) → k < length ps → LacksByte c (get_or ps k d).now) →

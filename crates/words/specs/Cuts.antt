@@ -1,5 +1,5 @@
 -- How a text is cut.
-use Rattle.std.specs.Prelude.{◌≡◌, ℕ, ◌-◌, ◌<◌, Bool, cond, ◌&&◌, List, [], map, length, take, filter, ◌==◌, nat_lt, slice_index_or}
+use Rattle.std.specs.Prelude.{◌≡◌, ℕ, ◌+◌, ◌-◌, ◌<◌, ◌≤◌, Bool, cond, ◌&&◌, List, [], ◌∷◌, Option, MatchOption, map, length, take, filter, ◌==◌, nat_lt, slice_index_or}
 use Rattle.std.specs.Borrow.{Bor}
 use Rattle.std.specs.Str.Iter.{LacksByte}
 use Rattle.std.specs.List.{join_with_byte}
@@ -36,3 +36,13 @@ pub record Words (line : List ℕ) (ws : List (Bor (List ℕ))) : Type 0 where
   pub pieces : List (Bor (List ℕ))
   pub cut : Pieces 32 line pieces
   pub kept : ws ≡ filter some_byte pieces
+
+-- the first line of a text comes and leaves what follows it, or the text has none; with the lines of what is left they are the lines of the text
+abbrev pub NextLine : (before : List ℕ) → Option (Bor (List ℕ)) → (after : List ℕ) → Type 0
+NextLine before r after = MatchOption r (Lines before [] × (length after ≡ 0))
+    (λ l. ((ls : List (Bor (List ℕ))) → Lines after ls → Lines before (l ∷ ls)) × (length after < length before) × (length after + length l.now ≤ length before))
+
+-- the same of the first word of a line, which isn't empty
+abbrev pub NextWord : (before : List ℕ) → Option (Bor (List ℕ)) → (after : List ℕ) → Type 0
+NextWord before r after = MatchOption r (Words before [] × (length after ≡ 0))
+    (λ w. ((ws : List (Bor (List ℕ))) → Words after ws → Words before (w ∷ ws)) × (0 < length w.now) × (length after + length w.now ≤ length before))
