@@ -1,13 +1,15 @@
 -- The lines of a text and the words of a line, one after another.
-use Rattle.std.proofs.Common.{zero, suc, inl, inr, ◌≡◌, ℕ, ◌+◌, ◌<◌, ◌≤◌, ◌≢◌, MatchOption, List, [], ◌∷◌, ◌++◌, length, get_or, take, filter, length-append, lit<, Option, Some, None, IfSome, sym, refl, ap, subst, ◌∙◌, arith}
+use Rattle.std.proofs.Common.{zero, suc, inl, inr, ◌≡◌, ℕ, ◌+◌, ◌<◌, ◌≤◌, ◌≢◌, MatchOption, List, [], ◌∷◌, ◌++◌, length, get_or, take, map, filter, length-append, lit<, Option, Some, None, IfSome, sym, refl, ap, subst, ◌∙◌, arith}
 use Rattle.std.specs.Borrow.{Bor}
 use Rattle.std.specs.List.{join_with_byte}
 use Rattle.std.specs.Iterator.{Yields}
+use Rattle.std.specs.Iterator.Adapters.{enumerate_source, enumerate_count, enumerate_steps}
+use Rattle.std.specs.declared.iter.Enumerate.{Enumerate}
 use Rattle.std.specs.Option.{unwrap_or}
 use Rattle.std.specs.Str.Iter.{LacksByte}
 use Rattle.std.specs.Str.Pattern.{FindsCharPrefix, CutsPrefixes, IsFullyTrimmed, IsTrimStartMatches}
 use Rattle.std.proofs.lemmas.Bool.{cases_eq}
-use Rattle.std.proofs.lemmas.List.{append-nil}
+use Rattle.std.proofs.lemmas.List.{append-nil, length-map}
 use Rattle.std.proofs.lemmas.Bool.Decides.{nat_tests}
 use Rattle.std.proofs.lemmas.Str.{encode_ascii}
 use Rattle.std.proofs.lemmas.Str.Pattern.{drop_at_char, split_parts, IsSplitOnceResult}
@@ -246,3 +248,36 @@ all_lines s t u xs y end = subst (λ (ls : List (Bor (List ℕ))). Lines s.rest.
 
 pub all_words : (s t u : WordsLeft) (xs : List (Bor (List ℕ))) → Yields (λ a r b. NextWord a.rest.now r b.rest.now) s xs t → NextWord t.rest.now None u.rest.now → Words s.rest.now xs
 all_words s t u xs y end = subst (λ (ws : List (Bor (List ℕ))). Words s.rest.now ws) (append-nil xs) (words_so_far s t xs y [] end.0)
+
+-- ---- a loop over numbered lines
+abbrev pub LineStep : LinesLeft → Option (Bor (List ℕ)) → LinesLeft → Type 0
+LineStep a r b = NextLine a.rest.now r b.rest.now
+
+pub numbered_so_far : (s t : Enumerate LinesLeft) (xs : List (ℕ × Bor (List ℕ))) → Yields (enumerate_steps LineStep) s xs t →
+    ((ls : List (Bor (List ℕ))) → Lines (enumerate_source t).rest.now ls → Lines (enumerate_source s).rest.now (map (λ p. p.1) xs ++ ls)) × (enumerate_count t ≡ enumerate_count s + length xs)
+numbered_so_far s t [] y = ((λ ls h. subst (λ (a : Enumerate LinesLeft). Lines (enumerate_source a).rest.now ls) (sym y) h), omega (arith, ap enumerate_count y))
+numbered_so_far s t (x ∷ xs) (j, step, y) =
+    let more = numbered_so_far j t xs y in
+    ((λ ls h. step.0.0 (map (λ p. p.1) xs ++ ls) (more.0 ls h)), omega (arith, step.2, more.1))
+
+-- a loop over the numbered lines of a text has gone over xs; line is its last one's number, and some follow
+pub numbered_line : (text : List ℕ) (s t u : Enumerate LinesLeft) (xs : List (ℕ × Bor (List ℕ))) (x : ℕ × Bor (List ℕ)) → (enumerate_source s).rest.now ≡ text → enumerate_count s ≡ 0 →
+    Yields (enumerate_steps LineStep) s xs t → enumerate_steps LineStep t (Some x) u → ((ls : List (Bor (List ℕ))) × Lines text (map (λ p. p.1) xs ++ (x.1 ∷ ls))) × (x.0 ≡ length xs)
+numbered_line text s t u xs x e none y step =
+    let far = numbered_so_far s t xs y in
+    let others = some_lines (enumerate_source u).rest.now in
+    ((others.0, subst (λ (a : List ℕ). Lines a (map (λ p. p.1) xs ++ (x.1 ∷ others.0))) e (far.0 (x.1 ∷ others.0) (step.0.0 others.0 others.1))), omega (arith, step.1, far.1, none))
+
+pub numbered_in : (text : List ℕ) (s t u : Enumerate LinesLeft) (xs : List (ℕ × Bor (List ℕ))) (x : ℕ × Bor (List ℕ)) → (enumerate_source s).rest.now ≡ text → enumerate_count s ≡ 0 →
+    Yields (enumerate_steps LineStep) s xs t → enumerate_steps LineStep t (Some x) u → (ls : List (Bor (List ℕ))) × Lines text ls × (x.0 < length ls)
+numbered_in text s t u xs x e none y step =
+    let at = numbered_line text s t u xs x e none y step in
+    let gone : List (Bor (List ℕ)) = map (λ p. p.1) xs in
+    (gone ++ (x.1 ∷ at.0.0), at.0.1, omega (arith, at.1, length-append gone (x.1 ∷ at.0.0), length-map xs (λ (p : ℕ × Bor (List ℕ)). p.1)))
+
+-- and it has gone over all of them
+pub numbered_lines : (text : List ℕ) (s t u : Enumerate LinesLeft) (xs : List (ℕ × Bor (List ℕ))) → (enumerate_source s).rest.now ≡ text →
+    Yields (enumerate_steps LineStep) s xs t → enumerate_steps LineStep t None u → Lines text (map (λ p. p.1) xs)
+numbered_lines text s t u xs e y end =
+    let far = numbered_so_far s t xs y in
+    subst (λ (a : List ℕ). Lines a (map (λ p. p.1) xs)) e (subst (λ (ls : List (Bor (List ℕ))). Lines (enumerate_source s).rest.now ls) (append-nil (map (λ p. p.1) xs)) (far.0 [] end.0.0))
