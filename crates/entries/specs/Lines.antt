@@ -7,6 +7,7 @@ use Rattle.fabric.specs.declared.parts.Source.{Source}
 use Rattle.fabric.specs.declared.parts.Source.TheVariants.{Nothing, Own, Track}
 use Rattle.fabric.specs.declared.size.Size.{Size}
 use Rattle.fabric.specs.Sides.{side_word}
+use Rattle.words.specs.Cuts.{Words}
 use Rattle.words.specs.Numbers.{Capped}
 use Rattle.entries.specs.declared.entry.Direction.{Direction}
 use Rattle.entries.specs.declared.entry.Direction.TheVariants.{In, Out}
@@ -79,3 +80,9 @@ LineSays words line (Table cell table sources) = (word_at words 0 ≡ codes "cel
 LineSays words line (Holds cell initial) = (word_at words 0 ≡ codes "cell") × Small (word_at words 1) (Some cell) × (word_at words 2 ≡ codes "holds") × HoldsLine words initial
 LineSays words line (Drive cell side track source) = (word_at words 0 ≡ codes "cell") × Small (word_at words 1) (Some cell) × (word_at words 2 ≡ side_word side) × DriveLine words track source
 LineSays words line (Port seat) = (word_at words 0 ≡ direction_word seat.direction) × SeatLine words line seat
+
+-- the line of that number and that text says the entry by its words
+pub record TextSays (text : List ℕ) (line : ℕ) (entry : Entry) : Type 0 where
+  pub words : List (Bor (List ℕ))
+  pub cut : Words text words
+  pub says : LineSays words line entry

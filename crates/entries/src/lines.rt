@@ -1,6 +1,6 @@
 // What the lines of a listing say, from their words.
 ghost use Rattle.std.specs.Prelude.{◌≡◌, ℕ, IfSome};
-ghost use Rattle.entries.specs.Lines.{SourceAt, LineSays, SizeSaid, direction_word};
+ghost use Rattle.entries.specs.Lines.{SourceAt, LineSays, SizeSaid, TextSays, direction_word};
 ghost use Rattle.entries.specs.Texts.{word_at};
 
 use crate::entry::{Direction, Entry, Seat};
@@ -8,6 +8,10 @@ use crate::fields::{below_64, first_source, hex, is_name, small};
 use fabric::parts::{Pin, Source};
 use fabric::size::Size;
 use words::numbers::decimal_or_most;
+use words::walking::Words;
+
+// How many words the longest line has: a cell's table, with four tracks as its sources.
+const MOST_WORDS: usize = 13;
 
 // The source that is all of these words.
 fn source(words: &[&str]) -> Option<Source>
@@ -99,4 +103,20 @@ pub fn read_entry<'a>(words: &[&'a str], line: usize) -> Option<Entry<'a>>
         ["out", ..] => port_line(words, Direction::Out, line),
         _ => cell_line(words),
     }
+}
+
+// What the line of that number says, if it can be read, from its text.
+pub fn read_line<'a>(text: &'a str, line: usize) -> Option<Entry<'a>>
+    ensures { IfSome result (λ e. TextSays text.now line e) }
+{
+    let mut words = [""; MOST_WORDS];
+    let mut count = 0;
+    for word in Words::new(text) {
+        if count >= MOST_WORDS {
+            return None;
+        }
+        words[count] = word;
+        count += 1;
+    }
+    read_entry(&words[..count], line)
 }

@@ -19,6 +19,10 @@ pub record Sized (line : List ℕ) (z : FabricSize) : Type 0 where
   pub cut : Words line words
   pub sizes : Sizes words z
 
+-- the first line of that text; an empty text has an empty one
+abbrev pub FirstLine : List ℕ → List ℕ → Type 0
+FirstLine text line = (ls : List (Bor (List ℕ))) × Lines text ls × (word_at ls 0 ≡ line)
+
 -- so does the first line of that text
 pub record Headed (text : List ℕ) (z : FabricSize) : Type 0 where
   pub lines : List (Bor (List ℕ))

@@ -7,13 +7,12 @@ ghost use Rattle.reading.specs.Faults.{AtLine, SomeLine};
 use crate::ports::DraftPorts;
 use crate::unread::Unread;
 use entries::entry::{Direction, Entry, Seat};
-use entries::lines::read_entry;
+use entries::lines::read_line;
 use fabric::grid::Grid;
 use fabric::parts::{Pin, Side, Source};
 use listings::parts::Listing;
 use std::alloc::{AllocError, Global};
 use std::array;
-use words::cutting::words;
 
 #[derive(Drop)]
 pub(crate) struct Draft<'a> {
@@ -21,6 +20,8 @@ pub(crate) struct Draft<'a> {
     grid: Grid,
     // the numbers that configure the fabric, where they are said
     room: Vec<Option<u16>>,
+    // for each pad whether an input goes in there
+    taken: Vec<bool>,
     inputs: DraftPorts<'a>,
     outputs: DraftPorts<'a>,
     ghost full: { vec_len room ≡ room_length (size_of grid) },
@@ -49,6 +50,7 @@ impl<'a> Draft<'a> {
             heap,
             grid,
             room: Vec::from_elem(heap, None, grid.room_len())?,
+            taken: Vec::from_elem(heap, false, grid.pads_len())?,
             inputs: DraftPorts::new(heap),
             outputs: DraftPorts::new(heap),
         })
@@ -98,21 +100,36 @@ impl<'a> Draft<'a> {
         cell < self.grid.cells() && track < self.grid.tracks && self.grid.at_edge(cell, pin.side)
     }
 
+    // Takes the pad of a pin for an input; None if another input has it.
+    fn take(&mut self, pin: Pin) -> Option<()>
+        ensures { self.new.grid ≡ self.old.grid }
+    {
+        let taken = self.taken.get_mut(self.grid.pad_place(pin))?;
+        if *taken {
+            return None;
+        }
+        *taken = true;
+        Some(())
+    }
+
     // Says where a bit is; no two inputs go in at one pin.
     fn set_port(&mut self, seat: Seat<'a>) -> Result<(), Unread>
         ensures same_grid { self.new.grid ≡ self.old.grid }
         ensures at { IfErr result (λ u. AtLine seat.entry.line u) }
     {
-        let taken = seat.direction == Direction::In && self.inputs.has(seat.pin);
-        if taken || !self.has_pin(seat.pin) {
-            return Err(Unread::misplaced(seat.line));
+        let misplaced = Unread::misplaced(seat.line);
+        if !self.has_pin(seat.pin) {
+            return Err(misplaced);
         }
         let before = match seat.direction {
-            Direction::In => self.inputs.note(self.heap, seat)?,
+            Direction::In => {
+                self.take(seat.pin).ok_or(misplaced)?;
+                self.inputs.note(self.heap, seat)?
+            }
             Direction::Out => self.outputs.note(self.heap, seat)?,
         };
         match before {
-            Some(_) => Err(Unread::misplaced(seat.line)),
+            Some(_) => Err(misplaced),
             None => Ok(()),
         }
     }
@@ -122,9 +139,8 @@ impl<'a> Draft<'a> {
         ensures same_grid { self.new.grid ≡ self.old.grid }
         ensures at { IfErr result (λ u. AtLine line u) }
     {
-        let words = words(self.heap, text)?;
         let misplaced = Unread::misplaced(line);
-        match read_entry(words.as_slice(), line) {
+        match read_line(text, line) {
             Some(
                 Entry::Table {
                     cell,

@@ -9,29 +9,31 @@ use listings::parts::Port;
 use std::alloc::{AllocError, Global};
 use std::collections::BTreeMap;
 
+// Where a bit is, and the line that says so; the rest of its seat is known from the port and the bit's number.
+#[derive(Clone, Copy)]
+pub(crate) struct Spot {
+    pin: Pin,
+    line: usize,
+}
+
 // An input or an output, with the bits that were said so far.
 #[derive(Drop)]
 struct DraftPort<'a> {
     name: &'a str,
-    bits: BTreeMap<u16, Seat<'a>>,
+    bits: BTreeMap<u16, Spot>,
 }
 
 impl DraftPort<'_> {
-    // Whether one of its bits is at that pin.
-    fn has(&self, pin: Pin) -> bool {
-        self.bits.values().any(|seat| seat.pin == pin)
-    }
-
     // The port with its bits in order; a bit whose lower neighbour is missing can't stand.
     fn finished(&self, heap: Global) -> Result<Port, Unread>
         ensures { IfErr result (λ u. Standing u) }
     {
         let mut pins = Vec::new(heap);
-        for (bit, seat) in self.bits.iter() {
+        for (bit, spot) in self.bits.iter() {
             if usize::from(*bit) != pins.len() {
-                return Err(Unread::misplaced(seat.line));
+                return Err(Unread::misplaced(spot.line));
             }
-            pins.push(seat.pin)?;
+            pins.push(spot.pin)?;
         }
         let name = String::from_str(heap, self.name)?;
         Ok(Port { name, pins })
@@ -51,22 +53,21 @@ impl<'a> DraftPorts<'a> {
         }
     }
 
-    // Whether a bit of one of them is at that pin.
-    pub(crate) fn has(&self, pin: Pin) -> bool {
-        self.ports.iter().any(|port| port.has(pin))
-    }
-
     // Notes a seat; gives back what was said of that bit before.
     pub(crate) fn note(
         &mut self,
         heap: Global,
         seat: Seat<'a>,
-    ) -> Result<Option<Seat<'a>>, AllocError> {
+    ) -> Result<Option<Spot>, AllocError> {
+        let spot = Spot {
+            pin: seat.pin,
+            line: seat.line,
+        };
         match self.ports.iter_mut().find(|port| port.name == seat.name) {
-            Some(port) => Ok(port.bits.insert(seat.bit, seat)?),
+            Some(port) => Ok(port.bits.insert(seat.bit, spot)?),
             None => {
                 let mut bits = BTreeMap::new(heap);
-                bits.insert(seat.bit, seat)?;
+                bits.insert(seat.bit, spot)?;
                 self.ports.push(DraftPort {
                     name: seat.name,
                     bits,
