@@ -13,7 +13,7 @@ use std::alloc::Global;
 use words::walking::Lines;
 
 // The grid that the first line says.
-fn grid_said(line: &str) -> Result<Grid, Unread>
+fn fabric_line(line: &str) -> Result<Grid, Unread>
     ensures { MatchResult result (λ g. Sized line.now (size_of g)) (λ u. NoSize (λ z. Sized line.now z) u) }
 {
     match read_line(line, 0) {
@@ -47,6 +47,6 @@ fn read_rest(heap: Global, grid: Grid, text: &str) -> Result<Listing, Unread>
 pub fn read(heap: Global, text: &str) -> Result<Listing, Unread>
     ensures { MatchResult result (λ l. Headed text.now (size_of l.grid)) (λ u. NoSize (λ z. Headed text.now z) u) }
 {
-    let grid = grid_said(first_line(text))?;
+    let grid = fabric_line(first_line(text))?;
     read_rest(heap, grid, text)
 }
