@@ -17,6 +17,8 @@ mod tests {
     use reading::unread::Unread;
     use std::alloc::{AllocError, Global};
     use std::test::Fail;
+    use words::cutting::{lines, words};
+    use words::walking::Words;
 
     const LINES: &str = "fabric 1 2 3
 cell 0 table 0008 from left 0 left 1 nothing nothing
@@ -247,6 +249,19 @@ cell 0 right 2 from own ";
             played(rt.alloc(), listing.as_str(), "i0 5\ni0 2\n")?.as_str(),
             "o0 5\no0 2\n"
         );
+        Ok(())
+    }
+
+    // All lines and all words at once; the readers go over them one by one.
+    #[test]
+    fn cut(rt: HostRuntime) -> Result<(), Fail> {
+        let lines = lines(rt.alloc(), "a\n\nb c\n")?;
+        assert_eq!(rt; lines.as_slice(), ["a", "", "b c"].as_slice());
+        let words = words(rt.alloc(), "  b  c ")?;
+        assert_eq!(rt; words.as_slice(), ["b", "c"].as_slice());
+        let mut left = Words::new(" b ");
+        assert!(rt; left.end().is_none());
+        assert!(rt; left.end().is_some());
         Ok(())
     }
 
