@@ -143,15 +143,15 @@ impl Listing {
         page.done()
     }
 
-    // The text: the fabric, and what follows it.
+    // The text: the fabric, and what follows it. The first line is put in front of the rest, since nothing is known of a text once a
+    // `Cell` is written to it; so there is only one long text.
     pub fn print(&self, heap: Global) -> Result<String, AllocError>
         ensures { IfOk result (λ s. ((rest : List ℕ) × (string_bytes s ≡ size_text (size_of self.now.grid) ++ rest))) }
     {
         let grid = self.grid;
-        let rest = self.print_rest(heap)?;
-        format!(in heap;
-            "fabric {} {} {}\n{rest}",
-            grid.rows, grid.columns, grid.tracks
-        )
+        let head = format!(in heap; "fabric {} {} {}\n", grid.rows, grid.columns, grid.tracks)?;
+        let mut text = self.print_rest(heap)?;
+        text.insert_str(0, head.as_str())?;
+        Ok(text)
     }
 }

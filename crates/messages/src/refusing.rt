@@ -25,12 +25,15 @@ impl fmt::Display for Plain<'_> {
     }
 }
 
-// The message: `refused N at PLACE: `, and what is wrong in plain words.
+// The message: `refused N at PLACE: `, and what is wrong in plain words. The head is put in front of the words, since nothing is known of
+// a text once a `Plain` is written to it; so there is only one long text.
 pub fn message(heap: Global, trouble: Trouble) -> Result<String, AllocError>
     ensures { IfOk result (λ s. ((words : List ℕ) × (string_bytes s ≡ refused_text (refusal_in trouble.entry) ++ words))) }
 {
     let refusal = trouble.refusal();
     let plain = Plain(trouble);
-    let words = format!(in heap; "{plain}")?;
-    format!(in heap; "{refusal}: {words}")
+    let head = format!(in heap; "{refusal}: ")?;
+    let mut text = format!(in heap; "{plain}")?;
+    text.insert_str(0, head.as_str())?;
+    Ok(text)
 }
