@@ -33,4 +33,4 @@ SomeLine many (Turned refusal) = (line : ℕ) × (line < many) × (refusal ≡ T
 -- want of memory, or a line of the text can't be read
 abbrev pub Unreadable : List ℕ → Unput → Type 0
 Unreadable text Memory = Unit {0}
-Unreadable text (Turned refusal) = (ls : List (Bor (List ℕ))) × Lines text ls × ((line : ℕ) × (line < length ls) × (refusal ≡ Text line))
+Unreadable text (Turned refusal) = (ls : List (Bor (List ℕ))) × Lines text ls × SomeLine (length ls) (Turned refusal)

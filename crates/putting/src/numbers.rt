@@ -1,12 +1,12 @@
 // The numbers of a text.
-ghost use Rattle.std.specs.Prelude.{length, IfErr};
-ghost use Rattle.putting.specs.Refusing.{AtLine, SomeLine, Unreadable};
+ghost use Rattle.std.specs.Prelude.{IfErr};
+ghost use Rattle.putting.specs.Refusing.{AtLine, Unreadable};
 
 use crate::unput::Unput;
 use design::refusal::Refusal;
 use std::alloc::Global;
-use words::cutting::lines;
 use words::numbers::decimal_or_most;
+use words::walking::Lines;
 
 // The numbers of a line go after those before.
 fn add_line(numbers: &mut Vec<u64>, text: &str, line: usize) -> Result<(), Unput>
@@ -19,20 +19,13 @@ fn add_line(numbers: &mut Vec<u64>, text: &str, line: usize) -> Result<(), Unput
     Ok(())
 }
 
-fn all_numbers(heap: Global, lines: &[&str]) -> Result<Vec<u64>, Unput>
-    ensures { IfErr result (λ u. SomeLine (length lines.now) u) }
-{
-    let mut numbers = Vec::new(heap);
-    for (line, text) in lines.iter().enumerate() {
-        add_line(&mut numbers, *text, line)?;
-    }
-    Ok(numbers)
-}
-
 // The decimal numbers of a text, separated by white space; one above 64 bits counts as the largest of 64 bits.
 pub fn numbers(heap: Global, text: &str) -> Result<Vec<u64>, Unput>
     ensures { IfErr result (λ u. Unreadable text.now u) }
 {
-    let lines = lines(heap, text)?;
-    all_numbers(heap, lines.as_slice())
+    let mut numbers = Vec::new(heap);
+    for (line, part) in Lines::new(text).enumerate() {
+        add_line(&mut numbers, part, line)?;
+    }
+    Ok(numbers)
 }
