@@ -42,8 +42,10 @@ impl Spot<'_> {
         }
     }
 
-    // What input k of the cell gives, as a number.
+    // What input k of the cell gives, as a number. Inlined like the look-up: a call has the spot's ten words written to memory first, and a
+    // sweep would make four for each cell.
     #[tactic(auto, using(crate::proofs::Readings::bit_byte, crate::proofs::Readings::bit_small), unfolding(crate::specs::Numbers::per_cell, crate::specs::Numbers::config_in))]
+    #[inline(always)]
     pub(crate) fn input(self, k: usize) -> usize
         requires { k < 4 }
         ensures is { let w = self.entry.moment.wiring in result ≡ bit (read (grid_of w) (pads_of w) (levels_of self.entry.moment) self.entry.cell ((config_of w).input self.entry.cell k)) }
@@ -53,8 +55,9 @@ impl Spot<'_> {
     }
 
     // The bit of the cell's table that its inputs say. The four are read one by one, each with its weight beside it: a sum over a range
-    // would hide that, and is no shorter.
+    // would hide that, and is no shorter. Inlined, since a sweep looks up each cell, as `input` says.
     #[tactic(auto, unfolding(crate::specs::Numbers::per_cell, crate::specs::Numbers::config_in, crate::specs::Fabrics::lookup))]
+    #[inline(always)]
     pub(crate) fn lookup(self) -> bool
         ensures { let w = self.entry.moment.wiring in result ≡ lookup (grid_of w) (config_of w) (pads_of w) (levels_of self.entry.moment) self.entry.cell }
     {
