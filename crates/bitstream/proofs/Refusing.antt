@@ -15,9 +15,10 @@ use Rattle.fabric.specs.declared.grid.Grid.{Grid}
 use Rattle.fabric.specs.Fabrics.{Size, cell_count}
 use Rattle.fabric.specs.Numbers.{room_length, size_refusal}
 use Rattle.fabric.specs.Code.{size_of}
-use Rattle.netlist.specs.Lowerings.{words_refusal}
+use Rattle.netlist.specs.Lowerings.{lower_refusal, words_refusal}
 use Rattle.netlist.specs.NotYet.{lowering_refusal}
 use Rattle.netlist.proofs.Whole.{refuses_none}
+use Rattle.netlist.proofs.Landing.{passes_on}
 use Rattle.design.proofs.Reading.{neither}
 use Rattle.netlist.proofs.Totals.{total_below}
 use Rattle.route.specs.Nets.{Room}
@@ -95,6 +96,10 @@ lowers_then g xs p s =
 
 pub lowers_surely : (g : Grid) (xs : List ℕ) (f : Refusal) → plain_refusal (size_of g) (design_in xs) ≡ None → soundness_refusal (design_in xs) ≡ None → words_refusal xs ≡ Some f → ⊥
 lowers_surely g xs f p s h = let n = lowers_then g xs p s in cc
+
+-- such a design is refused only for what can't be lowered yet
+pub lower_is : (g : Grid) (xs : List ℕ) → plain_refusal (size_of g) (design_in xs) ≡ None → soundness_refusal (design_in xs) ≡ None → lower_refusal xs ≡ lowering_refusal xs
+lower_is g xs p s = passes_on xs (min 65536 (plain_cells (design_in xs))) s refl (omega (arith, (has_room (size_of g) (design_in xs) p).0, few_cells g))
 
 -- refusals 1 to 6
 module _ (z : Size) (xs room pins : List ℕ) where

@@ -2,6 +2,8 @@
 ghost use Rattle.std.specs.Prelude.{◌≡◌, Some, None, MatchResult};
 ghost use Rattle.design.specs.Encodings.{design_of, list_of};
 ghost use Rattle.fabric.specs.Code.{size_of};
+ghost use Rattle.netlist.specs.Building.{Lowering};
+ghost use Rattle.netlist.specs.Lowerings.{netlist_of};
 ghost use Rattle.bitstream.specs.Puts.{put_refusal, plain_refusal, not_yet};
 ghost use Rattle.bitstream.specs.Plans.{words_answer, put_answer, Accepts, Plans, PlanSays};
 
@@ -12,8 +14,8 @@ use design::refusal::Refusal;
 use design::soundness::check;
 use fabric::grid::Grid;
 use fabric::size::Size;
-use netlist::landed::landed;
-use netlist::lowering::lower_words;
+use netlist::lowering::{lower, lower_words};
+use netlist::netlists::Netlist;
 use route::plain::Plain;
 
 // The request, or why it is none: refusals 1 to 6. The room and the pins are lent for their lengths alone, and are written later: a struct
@@ -63,38 +65,37 @@ impl Request<'_> {
         Ok(())
     }
 
-    // Lays the design out, or says that the plain layout has no room: refusal 7.
-    fn lay_out(self) -> Result<Plan, Refusal>
-        ensures { MatchResult result
-            (λ p. (plain_refusal (size_of self.entry.grid) (design_of self.entry.design) ≡ None) × (p.routing.grid ≡ self.entry.grid) × Plans (design_of self.entry.design) p)
-            (λ f. plain_refusal (size_of self.entry.grid) (design_of self.entry.design) ≡ Some f) }
+    // The plan for a netlist of the design, for which the plain layout has room.
+    fn laid_out(self, netlist: Netlist) -> Plan
+        requires room { plain_refusal (size_of self.grid) (design_of self.design) ≡ None }
+        requires lowered { Lowering (design_of self.design) (netlist_of netlist) }
+        ensures { (result.routing.grid ≡ self.entry.grid) × Plans (design_of self.entry.design) result }
     {
-        self.plain_room()?;
-        let netlist = lower_words(self.design)?;
         let inputs = self.counts.input_bits;
         let Some(routing) = Plain::new(self.grid, inputs as u16, netlist.count() as u16) else {
             unreachable()
         };
-        Ok(Plan {
+        Plan {
             netlist,
             routing,
             pins: (inputs + self.counts.output_bits) as usize,
-        })
+        }
     }
 
-    // Whether `put` takes the design by now: refusal 9.
-    fn landed(self) -> Result<(), Refusal>
+    // The netlist of a design that `put` takes by now: refusal 9, which is said before anything is built, but for the rows.
+    fn lowered(self) -> Result<Netlist, Refusal>
+        requires { plain_refusal (size_of self.grid) (design_of self.design) ≡ None }
         ensures { MatchResult result
-            (λ _. not_yet (size_of self.entry.grid) (list_of self.entry.design) ≡ None)
+            (λ n. (not_yet (size_of self.entry.grid) (list_of self.entry.design) ≡ None) × Lowering (design_of self.entry.design) (netlist_of n))
             (λ f. not_yet (size_of self.entry.grid) (list_of self.entry.design) ≡ Some f) }
     {
-        landed(self.design)?;
+        let netlist = lower(self.design)?;
         if self.grid.rows != 1 {
             return Err(Refusal::NotYet {
                 node: self.design.nodes() as u64,
             });
         }
-        Ok(())
+        Ok(netlist)
     }
 }
 
@@ -107,7 +108,10 @@ pub(crate) fn plan_words(
 ) -> Result<Plan, Refusal>
     ensures { PlanSays (words_answer size numbers.now room.now pins.now) size numbers.now room.now pins.now result }
 {
-    accept(size, numbers, room, pins)?.lay_out()
+    let request = accept(size, numbers, room, pins)?;
+    request.plain_room()?;
+    let netlist = lower_words(request.design)?;
+    Ok(request.laid_out(netlist))
 }
 
 // What `put` is to write, or the first refusal that applies.
@@ -115,7 +119,7 @@ pub(crate) fn plan(size: Size, numbers: &[u16], room: &[u16], pins: &[u16]) -> R
     ensures { PlanSays (put_answer size numbers.now room.now pins.now) size numbers.now room.now pins.now result }
 {
     let request = accept(size, numbers, room, pins)?;
-    let plan = request.lay_out()?;
-    request.landed()?;
-    Ok(plan)
+    request.plain_room()?;
+    let netlist = request.lowered()?;
+    Ok(request.laid_out(netlist))
 }

@@ -1,13 +1,23 @@
 use Rattle.std.proofs.Common.{◌∙◌}
-use Rattle.std.proofs.lemmas.Result.{MatchResult-weaker}
-use Rattle.bitstream.proofs.Refusing.{hands_on, words_first, words_next, planned}
+use Rattle.design.specs.Encodings.{list_of}
+use Rattle.bitstream.proofs.Refusing.{hands_on, words_first, words_next, lowers_surely, planned}
 use Rattle.bitstream.proofs.planning.plan_words.Goals as goal
 
-pub returns-in_err-accept : goal.returns-in_err-accept
-returns-in_err-accept c = hands_on _ _ _ c.from_residual.ensures.1 (words_first _ _ _ _ _ c.in_err-accept.ensures)
+pub returns-in_err-request : goal.returns-in_err-request
+returns-in_err-request c = hands_on _ _ _ c.from_residual.ensures.1 (words_first _ _ _ _ _ c.in_err-request.ensures)
+
+pub returns-in_err-plain_room : goal.returns-in_err-plain_room
+returns-in_err-plain_room c =
+    let a = c.in_ok-request.ensures in
+    hands_on _ _ _ c.from_residual-in_err-plain_room.ensures.1 (words_next _ _ _ _ _ a.1 a.0 ∙ c.in_err-plain_room.ensures)
+
+pub returns-in_err-netlist : goal.returns-in_err-netlist
+returns-in_err-netlist c =
+    let r = c.in_ok-request.request in
+    absurd (lowers_surely r.grid (list_of r.design) _ c.in_ok-plain_room.ensures r.sound c.in_err-netlist.ensures)
 
 pub returns : goal.returns
 returns c =
-    let a = c.in_ok-accept.ensures in
-    let w = words_next _ _ _ _ _ a.1 a.0 in
-    MatchResult-weaker c.lay_out.result c.lay_out.ensures (λ p h. (w ∙ h.0, planned _ _ _ _ _ a.1 p h.1 h.2)) (λ f h. w ∙ h)
+    let a = c.in_ok-request.ensures in
+    let p = c.laid_out.ensures in
+    (words_next _ _ _ _ _ a.1 a.0 ∙ c.in_ok-plain_room.ensures, planned _ _ _ _ _ a.1 _ p.0 p.1)
