@@ -11,8 +11,6 @@ use Rattle.fabric.specs.declared.parts.Source.TheVariants.{Nothing}
 use Rattle.fabric.specs.Fabrics.{Size, cell_count}
 use Rattle.fabric.specs.Numbers.{side_number, per_cell, config_in, PinAt}
 use Rattle.fabric.proofs.Coding.{side_number_small}
-use Rattle.std.proofs.lemmas.List.{get_or_past}
-use Rattle.arrayvec.specs.ArrayVec.{array_vec_len}
 use Rattle.netlist.specs.declared.parts.Net.TheVariants.{Zero}
 use Rattle.netlist.specs.declared.parts.Cell.{Cell as CellT}
 use Rattle.netlist.specs.declared.netlists.Netlist.{Netlist as NetlistT}
@@ -68,18 +66,18 @@ side_small z s t h =
     omega (arith, mul-le-mul_right z.tracks (let q : side_number s + 1 ≤ 4 = omega (arith, side_number_small s) in q), add-mul (side_number s) 1 z.tracks)
 
 -- a netlist and a layout for the design
-module _ (d : Design) (n : NetlistT) (r : Plain) (lowered : Lowering d (netlist_of n)) (inputs : r.inputs ≡ input_bits d) (count : r.placement.count ≡ array_vec_len n.cells) where
-  used : (c : ℕ) → c < array_vec_len n.cells → standing n c ≡ cell_at n.cells.items c
+module _ (d : Design) (n : NetlistT) (r : Plain) (lowered : Lowering d (netlist_of n)) (inputs : r.inputs ≡ input_bits d) (count : r.placement.count ≡ n.count) where
+  used : (c : ℕ) → c < n.count → standing n c ≡ cell_at n.cells c
   used c h = refl
 
-  unused : (c : ℕ) → array_vec_len n.cells ≤ c → standing n c ≡ blank
-  unused c h = get_or_past n.cells.items c blank h
+  unused : (c : ℕ) → n.count ≤ c → standing n c ≡ blank
+  unused c h = n.rest c h
 
   pub nets_exist : NetsExist n r
   nets_exist c k j h = ⊎_elim
       (λ l. rw (used c l) (λ q. omega (arith, lowered.lowers.inputs_exist c k j l h q), λ q. omega (arith, lowered.lowers.cells_exist c k j l h q)))
       (λ l. rw (unused c l, blank_net k h) (λ q. absurd cc, λ q. absurd cc))
-      (cases_lt c (array_vec_len n.cells))
+      (cases_lt c n.count)
 
   pub outputs_exist : (pins : ℕ) → pins ≡ pin_count d → output_bits d ≤ 1024 → OutputsExist n r pins
   unfolding pin_count
@@ -88,19 +86,19 @@ module _ (d : Design) (n : NetlistT) (r : Plain) (lowered : Lowering d (netlist_
       (omega arith, omega (arith, lowered.outputs m l))
 
 module _ (d : Design) (p : Plan) (pl : Plans d p) where
-  stands : (c : ℕ) → c < array_vec_len p.netlist.cells → cell_of p c ≡ cell_at p.netlist.cells.items c
+  stands : (c : ℕ) → c < p.netlist.count → cell_of p c ≡ cell_at p.netlist.cells c
   stands = used d p.netlist p.routing pl.lowered pl.inputs pl.count
 
-  stands_blank : (c : ℕ) → array_vec_len p.netlist.cells ≤ c → cell_of p c ≡ blank
+  stands_blank : (c : ℕ) → p.netlist.count ≤ c → cell_of p c ≡ blank
   stands_blank = unused d p.netlist p.routing pl.lowered pl.inputs pl.count
 
   module _ (room : List ℕ) (written : CellsWritten p (cell_count (grid_of p)) room) where
     -- a number of the room, as the plan has it
     at_cell : (c j : ℕ) → c < cell_count (grid_of p) → j < per_cell (grid_of p) →
-        NumberAt (grid_of p) (input_bits d) (array_vec_len p.netlist.cells) (cell_of p c) c j (get_or room (c * per_cell (grid_of p) + j) 0)
+        NumberAt (grid_of p) (input_bits d) (p.netlist.count) (cell_of p c) c j (get_or room (c * per_cell (grid_of p) + j) 0)
     at_cell c j h l = number_same (grid_of p) _ _ _ _ (cell_of p c) c j _ pl.inputs pl.count (written c j h l)
 
-    room_for : (c : ℕ) → c < array_vec_len p.netlist.cells → c < cell_count (grid_of p)
+    room_for : (c : ℕ) → c < p.netlist.count → c < cell_count (grid_of p)
     room_for c h = omega (arith, pl.count, p.routing.cells)
 
     configured : PlainConfig (netlist_of p.netlist) (grid_of p) (input_bits d) (config_in (grid_of p) room)

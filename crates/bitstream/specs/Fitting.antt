@@ -9,7 +9,7 @@ use Rattle.route.specs.declared.plain.Plain.{Plain}
 
 -- the netlist's cell that stands at the fabric's cell c, or one that shows 0
 abbrev pub standing : NetlistT → ℕ → CellT
-standing n c = cell_at n.cells.items c
+standing n c = cell_at n.cells c
 
 -- the cells' inputs are there
 abbrev pub NetsExist : NetlistT → Plain → Type 0

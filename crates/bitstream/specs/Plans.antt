@@ -12,7 +12,6 @@ use Rattle.fabric.specs.declared.parts.Pin.{Pin}
 use Rattle.fabric.specs.Fabrics.{Size}
 use Rattle.fabric.specs.Numbers.{side_number, source_of, per_cell, room_length, PinAt}
 use Rattle.fabric.specs.Code.{size_of}
-use Rattle.arrayvec.specs.ArrayVec.{array_vec_len}
 use Rattle.netlist.specs.declared.parts.Cell.{Cell as CellT}
 use Rattle.netlist.specs.Building.{input_of, Lowering}
 use Rattle.netlist.specs.Lowerings.{netlist_of}
@@ -54,7 +53,7 @@ cell_of p c = standing p.netlist c
 pub record Plans (d : Design) (p : Plan) : Type 0 where
   pub lowered : Lowering d (netlist_of p.netlist)
   pub inputs : inputs_of p ≡ input_bits d
-  pub count : count_of p ≡ array_vec_len p.netlist.cells
+  pub count : count_of p ≡ p.netlist.count
   pub pins : p.pins ≡ pin_count d
 
 -- the room and the list of pins are long enough for the plan

@@ -77,7 +77,7 @@ outputs_begin d cs n outs a = record {
   rising = λ m p l h. absurd (omega (arith, total_zero (output_width d)));
 }
 
-outputs_grow : (d : Design) (cs cs₁ : Cells) (n n₁ o : ℕ) (outs : ℕ → ℕ) → Grows d cs n cs₁ n₁ → OutputsAt d cs n outs o → OutputsAt d cs₁ n₁ outs o
+pub outputs_grow : (d : Design) (cs cs₁ : Cells) (n n₁ o : ℕ) (outs : ℕ → ℕ) → Grows d cs n cs₁ n₁ → OutputsAt d cs n outs o → OutputsAt d cs₁ n₁ outs o
 outputs_grow d cs cs₁ n n₁ o outs g a = record {
   registers = registers_grow d cs cs₁ n n₁ d.registers (omega arith) g a.registers;
   carried = λ q k h l. grows_carries d cs cs₁ n n₁ _ _ g (a.carried q k h l);

@@ -11,12 +11,12 @@ use Rattle.netlist.specs.declared.parts.Cell.{Cell as CellT}
 use Rattle.netlist.specs.declared.bus.Bus.{Bus}
 use Rattle.netlist.specs.declared.work.Work.{Work}
 use Rattle.netlist.specs.declared.netlists.Netlist.{Netlist as NetlistT}
-use Rattle.netlist.specs.Building.{cell_at, register_bits, CarriesWord, Extends, Laid, gate_row, register_row, RegistersAt, OutputsAt, registers_most, outputs_most, Lowering}
+use Rattle.netlist.specs.Building.{cell_at, register_bits, CarriesWord, Extends, Grows, Laid, gate_row, register_row, RegistersAt, OutputsAt, registers_most, outputs_most, Lowering}
 use Rattle.netlist.specs.Rows.{net_of}
 use Rattle.netlist.specs.Works.{count_of, cells_of, bus_at, nets_at, is_laid, outs_of, zeros, Wrote, RowLaid, RowAsks}
 use Rattle.netlist.specs.Lowerings.{expr_in, Lowerable, Built, LayAsks, LayGives, RegistersIn, OutputsIn, netlist_of, small_refusal, words_refusal}
 use Rattle.netlist.proofs.Growing.{carries_more}
-use Rattle.netlist.proofs.Roots.{registers_begin, registers_step, outputs_begin, outputs_step}
+use Rattle.netlist.proofs.Roots.{registers_begin, registers_step, outputs_begin, outputs_grow, outputs_step}
 use Rattle.netlist.proofs.Finished.{plain_is_most, lowering}
 use Rattle.netlist.proofs.Widths.{Range, width_range}
 use Rattle.netlist.proofs.Refusing.{small_none, small_says, words_none}
@@ -224,9 +224,14 @@ registers_none xs w k ok ek e none =
 pub whole_small : (xs : List ℕ) (w : Work) → Lowerable xs → OutputsIn xs w (design_in xs).outputs → count_of w ≤ 1024
 whole_small xs w ok a = omega (arith, a.few, small xs ok)
 
-pub finished : (xs : List ℕ) (w : Work) (n : NetlistT) → OutputsIn xs w (design_in xs).outputs → n.cells ≡ w.cells → n.outputs ≡ w.outputs →
-    Lowering (design_in xs) (netlist_of n)
-finished xs w n a ec eo = rw (ec, eo) (lowering (design_in xs) (cells_of w) (count_of w) (outs_of w) a.at a.few)
+pub finished : (xs : List ℕ) (w : Work) (n : NetlistT) → OutputsIn xs w (design_in xs).outputs → n.count ≡ count_of w →
+    ((c : ℕ) → cell_at n.cells c ≡ cells_of w c) → n.outputs ≡ w.outputs → Lowering (design_in xs) (netlist_of n)
+finished xs w n a ek ec eo =
+    let d = design_in xs in
+    let same : Grows d (cells_of w) (count_of w) (cell_at n.cells) (count_of w) =
+    record { extends = record { more = omega arith; same = λ c low high. ec c }; gates = λ c low high. absurd (omega arith) } in
+    let at = outputs_grow d (cells_of w) (cell_at n.cells) (count_of w) (count_of w) d.outputs (outs_of w) same a.at in
+    rw (ek, eo) (lowering d (cell_at n.cells) (count_of w) (outs_of w) at a.few)
 
 -- 4. Refusals.
 

@@ -1,9 +1,11 @@
 -- Rows of cells that the code writes and adds.
 use Rattle.std.specs.List.{refill}
 use Rattle.arrayvec.specs.ArrayVec.{ArrayVec, array_vec_len, with_items}
-use Rattle.std.proofs.Common.{[], ◌∷◌, ◌++◌, below_more, ◌≡◌, ℕ, ◌+◌, ◌-◌, ◌<◌, ◌≤◌, min, cond, ltb, List, length, get_or, refl, ap, ◌∙◌, arith}
+use Rattle.std.proofs.Common.{[], ◌∷◌, ◌++◌, below_more, ◌≡◌, ℕ, ◌+◌, ◌-◌, ◌<◌, ◌≤◌, min, cond, ltb, List, length, drop, get_or, replicate, sym, refl, ap, ◌∙◌, ⊎_elim, arith}
 use Rattle.std.proofs.lemmas.Grind.{common_steps}
-use Rattle.std.proofs.lemmas.Bool.{le-ltb}
+use Rattle.std.proofs.lemmas.Bool.{le-ltb, cases_lt}
+use Rattle.std.proofs.lemmas.List.{get_or_append_left, get_or-append_right, get_or-drop, get_or_past}
+use Rattle.design.proofs.Filled.{get_or-filled}
 use borrow.Rule.Slice.PartMut.{put_mid}
 use Rattle.netlist.specs.declared.parts.Net.{Net}
 use Rattle.netlist.specs.declared.parts.Net.TheVariants.{Zero, Cell}
@@ -113,3 +115,14 @@ summed w w₁ w₂ a b m x y none carries into bus narrow r z is ex ey s =
       nets = λ k h. t.nets k h ∙ ap (λ c. Cell (c + k)) r.count;
       notes = notes_trans w w₁ w₂ r.notes t.notes;
     }
+
+-- cells in the first places of as many as a netlist has, which show 0 past them
+pub padded : (xs ys : List CellT) (x : CellT) (m n : ℕ) → ys ≡ xs → n ≡ length xs → x ≡ blank → (c : ℕ) → cell_at (ys ++ drop n (replicate m x)) c ≡ cell_at xs c
+padded xs ys x m n ey en ex c = rw (ey, ex) (⊎_elim
+    (λ (h : c < length xs). get_or_append_left xs (drop n (replicate m blank)) blank c h)
+    (λ (h : length xs ≤ c). get_or-append_right xs (drop n (replicate m blank)) n c blank (sym en) (omega arith)
+    ∙ get_or-drop n (replicate m blank) (c - n) blank ∙ get_or-filled m (n + (c - n)) blank ∙ sym (get_or_past xs c blank h))
+    (cases_lt c (length xs)))
+
+pub padded_past : (xs ys : List CellT) (x : CellT) (m n : ℕ) → ys ≡ xs → n ≡ length xs → x ≡ blank → (c : ℕ) → n ≤ c → cell_at (ys ++ drop n (replicate m x)) c ≡ blank
+padded_past xs ys x m n ey en ex c h = padded xs ys x m n ey en ex c ∙ get_or_past xs c blank (omega arith)

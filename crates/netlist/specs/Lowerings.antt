@@ -16,7 +16,6 @@ use Rattle.netlist.specs.Netlists.{Netlist}
 use Rattle.netlist.specs.NotYet.{lowering_refusal}
 use Rattle.netlist.specs.Building.{cell_at, register_bits, netlist_in, CarriesWord, Grows, Laid, RegistersAt, OutputsAt, registers_most, outputs_most, Lowering}
 use Rattle.netlist.specs.Rows.{net_of}
-use Rattle.arrayvec.specs.ArrayVec.{array_vec_len}
 use Rattle.netlist.specs.Works.{count_of, cells_of, nets_at, is_laid, outs_of, SameNotes}
 
 -- the expressions of the nodes
@@ -135,7 +134,7 @@ pub record OutputsIn (xs : List ℕ) (w : Work) (o : ℕ) : Type 0 where
 
 -- the netlist that the code's stands for
 abbrev pub netlist_of : NetlistT → Netlist
-netlist_of n = netlist_in (cell_at n.cells.items) (array_vec_len n.cells) (λ m. slice_index n.outputs m)
+netlist_of n = netlist_in (cell_at n.cells) n.count (λ m. slice_index n.outputs m)
 
 -- what a lowered design's netlist is: it computes what the design computes, and takes no more cells than the plain layout
 abbrev pub Lowered : Design → NetlistT → Type 0

@@ -122,7 +122,7 @@ fn whole(task: &Task<'_>) -> Netlist
     );
     lay_registers(task, &mut work);
     lay_outputs(task, &mut work);
-    Netlist::new(work.cells, work.outputs)
+    Netlist::new(&work.cells, work.outputs)
 }
 
 // The counts of a sound design that takes no more cells than any fabric has.

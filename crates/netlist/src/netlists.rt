@@ -1,37 +1,50 @@
 // A netlist that is laid out whole.
-ghost use Rattle.std.specs.Prelude.{◌≡◌, ◌<◌, ◌≤◌, slice_index};
+ghost use Rattle.std.specs.Prelude.{◌≡◌, ℕ, ◌<◌, ◌≤◌, slice_index};
 ghost use Rattle.arrayvec.specs.ArrayVec.{array_vec_len};
-ghost use Rattle.netlist.specs.Building.{cell_at};
+ghost use Rattle.netlist.specs.Building.{blank, cell_at};
 
 use crate::parts::Cell;
 use arrayvec::ArrayVec;
 
-// The cells, and for each output bit the cell that shows it. It is cloned and not copied, since its vector is no `Copy`.
-// The output bits have a place each and no `ArrayVec`, whose length would say again what the design says.
-#[derive(Clone, Drop)]
+// So many cells, and for each output bit the cell that shows it. Arrays and no `ArrayVec`: with it a netlist could not be `Copy`, and its
+// length would say again, of the output bits, what the design says.
+#[derive(Clone, Copy)]
 pub struct Netlist {
-    cells: ArrayVec<Cell, 1024>,
+    cells: [Cell; 1024],
+    count: usize,
     outputs: [u16; 1024],
+    ghost few: { count ≤ 1024 },
+    ghost rest: { (c : ℕ) → count ≤ c → cell_at cells c ≡ blank },
 }
 
 impl Netlist {
-    pub(crate) fn new(cells: ArrayVec<Cell, 1024>, outputs: [u16; 1024]) -> Netlist
-        ensures { (result.cells ≡ cells) × (result.outputs ≡ outputs) }
+    pub(crate) fn new(laid: &ArrayVec<Cell, 1024>, outputs: [u16; 1024]) -> Netlist
+        ensures count { result.count ≡ array_vec_len laid.now }
+        ensures cells { (c : ℕ) → cell_at result.cells c ≡ cell_at laid.now.items c }
+        ensures outputs { result.outputs ≡ outputs }
     {
-        Netlist { cells, outputs }
+        let count = laid.len();
+        let mut cells = [Cell::blank(); 1024];
+        cells[..count].copy_from_slice(laid);
+        Netlist {
+            cells,
+            count,
+            outputs,
+        }
     }
 
     // How many cells there are.
     pub fn count(&self) -> usize
-        ensures is { result ≡ array_vec_len self.now.cells }
+        ensures is { result ≡ self.now.count }
         ensures few { result ≤ 1024 }
     {
-        self.cells.len()
+        self.count
     }
 
     // Cell c; past the last one a cell that shows 0.
     pub fn cell(&self, c: usize) -> Cell
-        ensures { result ≡ cell_at self.now.cells.items c }
+        ensures is { result ≡ cell_at self.now.cells c }
+        ensures past { self.now.count ≤ c → result ≡ blank }
     {
         self.cells.get(c).copied().unwrap_or(Cell::blank())
     }

@@ -16,4 +16,4 @@ pub lay_outputs-requires : goal.lay_outputs-requires
 lay_outputs-requires c = outputs_none _ c.args.task.now.lowerable _ c.lay_registers.ensures
 
 pub returns : goal.returns
-returns c = finished _ _ c.new.result c.lay_outputs.ensures c.new.ensures.0 c.new.ensures.1
+returns c = finished _ _ c.new.result c.lay_outputs.ensures c.new.ensures.count c.new.ensures.cells c.new.ensures.outputs
