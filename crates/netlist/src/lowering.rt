@@ -10,7 +10,7 @@ use crate::landed::landed;
 use crate::netlists::Netlist;
 use crate::operands::operands_of;
 use crate::operations::{AND, EQUAL, LESS, NOT, OR, PASS, SAME, XOR};
-use crate::parts::Cell;
+use crate::parts::{Cell, Net};
 use crate::row::{bit, constant};
 use crate::starts::bits_before;
 use crate::work::Work;
@@ -106,7 +106,8 @@ fn lay_outputs(task: &Task<'_>, work: &mut Work)
         lay(analysis, work, Some(node));
         let width = analysis.width(node);
         let first = work.cells.len() as u16;
-        work.unary(PASS, node, width);
+        let bus = work.bus(node);
+        work.push(width, |k| Cell::gate(PASS, bus.net(k as usize), Net::Zero));
         work.show(start, first, width);
         start += width;
     }

@@ -1,4 +1,4 @@
-use Rattle.std.proofs.Common.{◌≡◌, ◌<◌, sym, arith}
+use Rattle.std.proofs.Common.{◌≡◌, ◌<◌, sym, arith, rules}
 use Rattle.design.specs.Designs.{output_width}
 use Rattle.design.specs.Numbers.{outputs_of, design_in}
 use Rattle.netlist.proofs.Totals.{total_zero, total_more}
@@ -19,11 +19,11 @@ overflow_cast-first c =
     let m = output_wide _ c.args.task.now.lowerable _ _ _ h c.output-node.ensures.node c.width-width.ensures in
     omega (arith, (output_row _ c.args.task.now.lowerable _ _ _ _ _ h c.output-node.ensures.node c.loop-o.invariant.0 c.lay.ensures m).room)
 
-pub unary-requires : goal.unary-requires
-unary-requires c =
+pub push-requires : goal.push-requires
+push-requires c =
     let h : c.loop-o.o < outputs_of c.args.task.now.analysis.design.numbers.now = omega (arith, c.loop-o-test.true, c.outputs-o-end.ensures) in
     let m = output_wide _ c.args.task.now.lowerable _ _ _ h c.output-node.ensures.node c.width-width.ensures in
-    output_row _ c.args.task.now.lowerable _ _ _ _ _ h c.output-node.ensures.node c.loop-o.invariant.0 c.lay.ensures m
+    record { callable = search rules; room = (output_row _ c.args.task.now.lowerable _ _ _ _ _ h c.output-node.ensures.node c.loop-o.invariant.0 c.lay.ensures m).room }
 
 pub show-requires : goal.show-requires
 show-requires c =
@@ -45,7 +45,7 @@ loop-o-preserved c =
     let h : c.loop-o.o < outputs_of c.args.task.now.analysis.design.numbers.now = omega (arith, c.loop-o-test.true, c.outputs-o-end.ensures) in
     let m = output_wide _ c.args.task.now.lowerable _ _ _ h c.output-node.ensures.node c.width-width.ensures in
     let s = c.show.ensures in (
-      output_step _ c.args.task.now.lowerable _ _ _ _ _ h c.output-node.ensures.node c.loop-o.invariant.0 c.lay.ensures m _ _ _ _ _ c.loop-o.invariant.1 c.unary.ensures
+      output_step _ c.args.task.now.lowerable _ _ _ _ _ h c.output-node.ensures.node c.loop-o.invariant.0 c.lay.ensures m _ _ _ _ _ c.loop-o.invariant.1 (c.push.ensures _ (λ k x h p. search (rules, p)))
           c.len-first.ensures.value s.cells s.buses s.old s.new,
       omega (arith, c.loop-o.invariant.1, m, total_more c.loop-o.o (output_width (design_in c.args.task.now.analysis.design.numbers.now))),
     )

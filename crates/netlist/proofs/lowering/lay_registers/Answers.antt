@@ -15,7 +15,7 @@ lay-requires c =
 pub write-requires : goal.write-requires
 write-requires c =
     let h : c.loop-r.r < registers_of c.args.task.now.analysis.design.numbers.now = omega (arith, c.loop-r-test.true, c.registers-r-end.ensures) in
-    record { callable = search rules; room = register_room _ c.args.task.now.lowerable _ _ _ _ c.lay.ensures.built h c.loop-r.invariant.1 c.register-register.ensures.width }
+    record { callable = search rules; room = omega (arith, register_room _ c.args.task.now.lowerable _ _ _ _ c.lay.ensures.built h c.loop-r.invariant.1 c.register-register.ensures.width) }
 
 pub overflow_add-start : goal.overflow_add-start
 overflow_add-start c =
