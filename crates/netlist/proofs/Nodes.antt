@@ -283,28 +283,30 @@ module _ (xs : List ℕ) (w : Work) (n : ℕ) where
         (λ j h. rw (← is, ← ex, ← ey) (nets j (omega (arith, o.within)))))
         refl (omega arith) (same_notes w)
 
-    pub input_built : (i start : ℕ) (k : BuildAsks xs w n (Input i)) → i < 65536 → start ≡ min 65535 (total i (design_in xs).input_width) →
+    pub input_built : (i start : ℕ) (k : BuildAsks xs w n (Input i)) → i < 65536 → (i ≤ (design_in xs).inputs → start ≡ min 65535 (total i (design_in xs).input_width)) →
         ((j : ℕ) → j < 64 → net_of bus j ≡ InputNet (min 65535 (start + j))) → BuildGives xs w w n (Input i) bus
     unfolding expr_of own_cells well_formed
-    input_built i start k small e nets =
+    input_built i start k small begin nets =
         let d = design_in xs in
         let there : i < d.inputs = ltb-true i d.inputs (formed xs w n (Input i) k) in
         let r = input_range d k.lowerable.sound i there in
         let few = k.lowerable.few_inputs i small there in
+        let e = begin (omega arith) in
         gives xs w n (Input i) k w (count_of w) bus
         (input_laid d (cells_of w) (count_of w) (net_of bus) i there
         (λ j h. nets j (omega (arith, r.high)) ∙ ap InputNet (let q : min 65535 (start + j) ≡ total i d.input_width + j = omega arith in q)))
         refl (omega arith) (same_notes w)
 
-    pub register_built : (i start : ℕ) (k : BuildAsks xs w n (Register i)) → start ≡ min 65535 (total i (design_in xs).register_width) → count_of w ≤ 1024 →
+    pub register_built : (i start : ℕ) (k : BuildAsks xs w n (Register i)) → (i ≤ (design_in xs).registers → start ≡ min 65535 (total i (design_in xs).register_width)) → count_of w ≤ 1024 →
         ((j : ℕ) → j < 64 → net_of bus j ≡ Cell (min 65535 (start + j))) → BuildGives xs w w n (Register i) bus
     unfolding expr_of own_cells well_formed register_bits
-    register_built i start k e small nets =
+    register_built i start k begin small nets =
         let d = design_in xs in
         let there : i < d.registers = ltb-true i d.registers (formed xs w n (Register i) k) in
         let r = register_range d k.lowerable.sound i there in
         let t = total_one d.register_width i d.registers there in
         let low : total d.registers d.register_width ≤ count_of w = k.built.low in
+        let e = begin (omega arith) in
         gives xs w n (Register i) k w (count_of w) bus
         (register_laid d (cells_of w) (count_of w) (net_of bus) low i there
         (λ j h. nets j (omega (arith, r.high)) ∙ ap Cell (let q : min 65535 (start + j) ≡ total i d.register_width + j = omega arith in q)))

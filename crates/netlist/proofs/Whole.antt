@@ -204,16 +204,17 @@ module _ (xs : List ℕ) (ok : Lowerable xs) where
 
 -- 3. The whole.
 
-pub registers_fit : (xs : List ℕ) (k : ℕ) → Lowerable xs → k ≡ min 65535 (total (registers_of xs) (design_in xs).register_width) → k ≤ 1024
+pub registers_fit : (xs : List ℕ) (r k : ℕ) → Lowerable xs → r ≡ registers_of xs → (r ≤ (design_in xs).registers → k ≡ min 65535 (total r (design_in xs).register_width)) → k ≤ 1024
 unfolding design_in register_bits
-registers_fit xs k ok e = omega (arith, register_bits_small xs ok)
+registers_fit xs r k ok er begin = let e = begin (omega arith) in omega (arith, rw er at e, register_bits_small xs ok)
 
-pub registers_none : (xs : List ℕ) (w : Work) (k : ℕ) → Lowerable xs → k ≡ min 65535 (total (registers_of xs) (design_in xs).register_width) → count_of w ≡ k →
-    ((m : ℕ) → is_laid w m ≡ false) → RegistersIn xs w 0
+pub registers_none : (xs : List ℕ) (w : Work) (r k : ℕ) → Lowerable xs → r ≡ registers_of xs → (r ≤ (design_in xs).registers → k ≡ min 65535 (total r (design_in xs).register_width)) →
+    count_of w ≡ k → ((m : ℕ) → is_laid w m ≡ false) → RegistersIn xs w 0
 unfolding design_in register_bits
-registers_none xs w k ok ek e none =
+registers_none xs w r k ok er begin e none =
     let d = design_in xs in
     let s : register_bits d ≤ 1024 = register_bits_small xs ok in
+    let ek : k ≡ min 65535 (total (registers_of xs) d.register_width) = rw er at begin (omega arith) in
     let c : count_of w ≡ register_bits d = omega arith in
     record {
       built = record { low = omega arith; buses = λ m h l. absurd (both_ways (is_laid w m) (none m) l) };

@@ -4,3 +4,4 @@ pub mod Building
 pub mod Rows
 pub mod Works
 pub mod Lowerings
+pub mod Starts

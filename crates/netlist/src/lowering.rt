@@ -1,8 +1,10 @@
 // Laying out the nodes of a design as cells, each node at most once.
-ghost use Rattle.std.specs.Prelude.{◌≡◌, Some, None, MatchResult};
+ghost use Rattle.std.specs.Prelude.{◌≡◌, ◌≤◌, min, Some, None, MatchResult};
+ghost use Rattle.design.specs.Designs.{total};
 ghost use Rattle.design.specs.Numbers.{design_in};
 ghost use Rattle.design.specs.Encodings.{list_of, design_of, Counted};
 ghost use Rattle.netlist.specs.Building.{Lowering};
+ghost use Rattle.netlist.specs.Starts.{Marked};
 ghost use Rattle.netlist.specs.Lowerings.{LayAsks, LayGives, BuildAsks, BuildGives, Lowerable, RegistersIn, OutputsIn, netlist_of, Lowered, small_refusal, lower_refusal, words_refusal};
 
 use crate::bus::Bus;
@@ -12,7 +14,7 @@ use crate::operands::operands_of;
 use crate::operations::{AND, EQUAL, LESS, NOT, OR, PASS, SAME, XOR};
 use crate::parts::{Cell, Net};
 use crate::row::{bit, constant};
-use crate::starts::bits_before;
+use crate::starts::Starts;
 use crate::work::Work;
 use design::analysis::Analysis;
 use design::counts::Counts;
@@ -21,14 +23,55 @@ use design::node::Node;
 use design::refusal::Refusal;
 use design::soundness::check;
 
+// A design that can be lowered, with what is known of its nodes, and where the bits of its inputs and of its registers begin.
+#[derive(Drop)]
+struct Task<'a> {
+    analysis: Analysis<'a>,
+    inputs: Starts,
+    registers: Starts,
+    ghost lowerable: { Lowerable (list_of analysis.design) },
+    ghost inputs_begin: { Marked inputs (design_of analysis.design).inputs (design_of analysis.design).input_width },
+    ghost registers_begin: { Marked registers (design_of analysis.design).registers (design_of analysis.design).register_width },
+}
+
+impl<'a> Task<'a> {
+    fn new(design: Encoded<'a>) -> Task<'a>
+        requires { Lowerable (list_of design) }
+        ensures { list_of result.analysis.design ≡ list_of design.entry }
+    {
+        Task {
+            analysis: Analysis::new(design),
+            inputs: Starts::new(design.inputs(), |i| design.input_width(i)),
+            registers: Starts::new(design.registers(), |r| design.register(r).width),
+        }
+    }
+
+    // The number of an input's first bit.
+    fn input_start(&self, i: u16) -> u16
+        ensures { i ≤ (design_of self.now.analysis.design).inputs → result ≡ min 65535 (total i (design_of self.now.analysis.design).input_width) }
+    {
+        let design = self.analysis.design;
+        self.inputs.before(i, |j| design.input_width(j))
+    }
+
+    // The number of a register's first bit; past the last register how many bits there are.
+    fn register_start(&self, r: u16) -> u16
+        ensures { r ≤ (design_of self.now.analysis.design).registers → result ≡ min 65535 (total r (design_of self.now.analysis.design).register_width) }
+    {
+        let design = self.analysis.design;
+        self.registers.before(r, |j| design.register(j).width)
+    }
+}
+
 // The nets of node n, whose operands are laid out.
-fn build(analysis: &Analysis<'_>, work: &mut Work, n: u16, node: Node) -> Bus
-    requires { BuildAsks (list_of analysis.now.design) work.old n node }
-    ensures { BuildGives (list_of analysis.now.design) work.old work.new n node result }
+fn build(task: &Task<'_>, work: &mut Work, n: u16, node: Node) -> Bus
+    requires { BuildAsks (list_of task.now.analysis.design) work.old n node }
+    ensures { BuildGives (list_of task.now.analysis.design) work.old work.new n node result }
 {
+    let analysis = &task.analysis;
     match node {
-        Node::Input(i) => Bus::inputs(bits_before(i, |j| analysis.design.input_width(j))),
-        Node::Register(r) => Bus::cells(bits_before(r, |j| analysis.design.register(j).width)),
+        Node::Input(i) => Bus::inputs(task.input_start(i)),
+        Node::Register(r) => Bus::cells(task.register_start(r)),
         Node::Constant { width, value } => work.push(width, |k| constant(value, k)),
         Node::And(a, b) => work.binary(AND, a, b, analysis.width(a)),
         Node::Or(a, b) => work.binary(OR, a, b, analysis.width(a)),
@@ -45,9 +88,9 @@ fn build(analysis: &Analysis<'_>, work: &mut Work, n: u16, node: Node) -> Bus
 
 // Lays a node out, unless it is laid out already; no node is laid out at once. A node names earlier nodes only, so the recursion ends.
 // Three calls and no loop over the operands, which would have to say what the calls before had laid out.
-fn lay(analysis: &Analysis<'_>, work: &mut Work, node: Option<u16>)
-    requires { LayAsks (list_of analysis.now.design) work.old node }
-    ensures { LayGives (list_of analysis.now.design) work.old work.new node }
+fn lay(task: &Task<'_>, work: &mut Work, node: Option<u16>)
+    requires { LayAsks (list_of task.now.analysis.design) work.old node }
+    ensures { LayGives (list_of task.now.analysis.design) work.old work.new node }
 {
     let Some(n) = node else {
         return;
@@ -55,20 +98,13 @@ fn lay(analysis: &Analysis<'_>, work: &mut Work, node: Option<u16>)
     if work.has(n) {
         return;
     }
-    let found = analysis.design.node(n);
+    let found = task.analysis.design.node(n);
     let [first, second, third] = operands_of(found);
-    lay(analysis, work, first);
-    lay(analysis, work, second);
-    lay(analysis, work, third);
-    let bus = build(analysis, work, n, found);
+    lay(task, work, first);
+    lay(task, work, second);
+    lay(task, work, third);
+    let bus = build(task, work, n, found);
     work.note(n, bus);
-}
-
-// A design that can be lowered, with what is known of its nodes.
-#[derive(Drop)]
-struct Task<'a> {
-    analysis: Analysis<'a>,
-    ghost lowerable: { Lowerable (list_of analysis.design) },
 }
 
 // The cells of the registers, each with the net of the bit that it becomes. A `for` and no chain, since each turn changes the work that
@@ -77,12 +113,11 @@ fn lay_registers(task: &Task<'_>, work: &mut Work)
     requires { RegistersIn (list_of task.now.analysis.design) work.old 0 }
     ensures { RegistersIn (list_of task.now.analysis.design) work.new (design_of task.now.analysis.design).registers }
 {
-    let analysis = &task.analysis;
-    let design = analysis.design;
+    let design = task.analysis.design;
     let mut start: u16 = 0;
     for r in 0..design.registers() {
         let register = design.register(r);
-        lay(analysis, work, Some(register.next));
+        lay(task, work, Some(register.next));
         let next = work.bus(register.next);
         work.write(
             start,
@@ -98,13 +133,12 @@ fn lay_outputs(task: &Task<'_>, work: &mut Work)
     requires { OutputsIn (list_of task.now.analysis.design) work.old 0 }
     ensures { OutputsIn (list_of task.now.analysis.design) work.new (design_of task.now.analysis.design).outputs }
 {
-    let analysis = &task.analysis;
-    let design = analysis.design;
+    let design = task.analysis.design;
     let mut start: u16 = 0;
     for o in 0..design.outputs() {
         let node = design.output(o);
-        lay(analysis, work, Some(node));
-        let width = analysis.width(node);
+        lay(task, work, Some(node));
+        let width = task.analysis.width(node);
         let first = work.cells.len() as u16;
         let bus = work.bus(node);
         work.push(width, |k| Cell::gate(PASS, bus.net(k as usize), Net::Zero));
@@ -117,10 +151,8 @@ fn lay_outputs(task: &Task<'_>, work: &mut Work)
 fn whole(task: &Task<'_>) -> Netlist
     ensures { Lowering (design_of task.now.analysis.design) (netlist_of result) }
 {
-    let design = task.analysis.design;
-    let mut work = Work::new(
-        bits_before(design.registers(), |r| design.register(r).width) as usize,
-    );
+    let register_bits = task.register_start(task.analysis.design.registers());
+    let mut work = Work::new(register_bits as usize);
     lay_registers(task, &mut work);
     lay_outputs(task, &mut work);
     Netlist::new(&work.cells, work.outputs)
@@ -149,8 +181,7 @@ pub fn lower(design: Encoded<'_>) -> Result<Netlist, Refusal>
 {
     small(design)?;
     landed(design)?;
-    let analysis = Analysis::new(design);
-    Ok(whole(&Task { analysis }))
+    Ok(whole(&Task::new(design)))
 }
 
 // The netlist of a design of words of up to 64 bits, or the first reason why there is none.
@@ -165,6 +196,5 @@ pub fn lower_words(design: Encoded<'_>) -> Result<Netlist, Refusal>
             needed: counts.tracks,
         });
     }
-    let analysis = Analysis::new(design);
-    Ok(whole(&Task { analysis }))
+    Ok(whole(&Task::new(design)))
 }

@@ -122,9 +122,9 @@ returns-in-Concat c =
 pub returns-in-Input : goal.returns-in-Input
 returns-in-Input c =
     let k = asks_as _ _ _ _ _ c.in-Input.is c.requires in
-    gives_as _ _ _ _ _ _ _ c.in-Input.is (input_built _ _ _ _ _ _ k (omega arith) (c.bits_before.ensures _ (λ j w h p. search rules)) c.inputs.ensures)
+    gives_as _ _ _ _ _ _ _ c.in-Input.is (input_built _ _ _ _ _ _ k (omega arith) c.input_start.ensures c.inputs.ensures)
 
 pub returns-in-Register : goal.returns-in-Register
 returns-in-Register c =
     let k = asks_as _ _ _ _ _ c.in-Register.is c.requires in
-    gives_as _ _ _ _ _ _ _ c.in-Register.is (register_built _ _ _ _ _ _ k (c.bits_before-in-Register.ensures _ (λ j w h p. search rules)) (omega (arith, c.requires.room)) c.cells.ensures)
+    gives_as _ _ _ _ _ _ _ c.in-Register.is (register_built _ _ _ _ _ _ k c.register_start.ensures (omega (arith, c.requires.room)) c.cells.ensures)

@@ -15,8 +15,8 @@ returns-in_err-landed c =
     let p = err_from_is_err_and c.from_residual-in_err-landed.result c.from_residual-in_err-landed.ensures.1 in
     rw (p.1, p.2) (lower_passes _ c.in_ok-small.ensures.0 ∙ c.in_err-landed.ensures)
 
-pub invariant_of-whole : goal.invariant_of-whole
-invariant_of-whole c = record { lowerable = rw c.new-analysis.ensures (landed_lowerable _ (not_refused _ c.args.design.readable) c.in_ok-small.ensures.0 c.in_ok-landed.ensures) }
+pub new-requires : goal.new-requires
+new-requires c = landed_lowerable _ (not_refused _ c.args.design.readable) c.in_ok-small.ensures.0 c.in_ok-landed.ensures
 
 pub returns : goal.returns
-returns c = (lower_passes _ c.in_ok-small.ensures.0 ∙ c.in_ok-landed.ensures, rw c.new-analysis.ensures at c.whole.ensures)
+returns c = (lower_passes _ c.in_ok-small.ensures.0 ∙ c.in_ok-landed.ensures, rw c.new.ensures at c.whole.ensures)

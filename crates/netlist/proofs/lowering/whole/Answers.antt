@@ -1,16 +1,12 @@
-use Rattle.std.proofs.Common.{min, ap, ◌∙◌, rules}
-use Rattle.design.specs.Designs.{total}
-use Rattle.design.specs.Numbers.{design_in}
 use Rattle.netlist.proofs.Whole.{registers_fit, registers_none, outputs_none, finished}
 use Rattle.netlist.proofs.lowering.whole.Goals as goal
 
 pub new-work-requires : goal.new-work-requires
-new-work-requires c =
-    registers_fit _ _ c.args.task.now.lowerable (c.bits_before.ensures _ (λ j w h p. search rules) ∙ ap (λ k. min 65535 (total k (design_in c.args.task.now.analysis.design.numbers.now).register_width)) c.registers.ensures)
+new-work-requires c = registers_fit _ _ _ c.args.task.now.lowerable c.registers.ensures c.register_start-register_bits.ensures
 
 pub lay_registers-requires : goal.lay_registers-requires
-lay_registers-requires c = registers_none _ _ _ c.args.task.now.lowerable (c.bits_before.ensures _ (λ j w h p. search rules) ∙ ap (λ k. min 65535 (total k (design_in c.args.task.now.analysis.design.numbers.now).register_width)) c.registers.ensures)
-    c.new-work.ensures.count c.new-work.ensures.none
+lay_registers-requires c =
+    registers_none _ _ _ _ c.args.task.now.lowerable c.registers.ensures c.register_start-register_bits.ensures c.new-work.ensures.count c.new-work.ensures.none
 
 pub lay_outputs-requires : goal.lay_outputs-requires
 lay_outputs-requires c = outputs_none _ c.args.task.now.lowerable _ c.lay_registers.ensures
