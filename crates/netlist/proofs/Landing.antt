@@ -27,12 +27,20 @@ none_here None h = refl
 none_here (Some x) h = absurd (true≢false h)
 
 -- every input has width 1
-input_ones : (xs : List ℕ) → lowering_refusal xs ≡ None → (i : ℕ) → i < (design_in xs).inputs → (design_in xs).input_width i ≡ 1
+pub input_ones : (xs : List ℕ) → lowering_refusal xs ≡ None → (i : ℕ) → i < (design_in xs).inputs → (design_in xs).input_width i ≡ 1
 unfolding lowering_refusal input_single design_in
 input_ones xs l i h =
     let p = neither (option_map (λ n. NotYet n) (first_failing (node_landed xs) (nodes_of xs))) (then_some (wide xs) (NotYet (nodes_of xs))) l in
     let w = or_parts (is_some (first_failing (input_single xs) (inputs_of xs))) (is_some (first_failing (register_single xs) (registers_of xs))) (not_wide (wide xs) (NotYet (nodes_of xs)) p.1) in
     eqb-true _ 1 (first_none (input_single xs) (inputs_of xs) (none_here _ w.0) i h)
+
+-- and so has every register
+pub register_ones : (xs : List ℕ) → lowering_refusal xs ≡ None → (r : ℕ) → r < (design_in xs).registers → (design_in xs).register_width r ≡ 1
+unfolding lowering_refusal register_single design_in
+register_ones xs l r h =
+    let p = neither (option_map (λ n. NotYet n) (first_failing (node_landed xs) (nodes_of xs))) (then_some (wide xs) (NotYet (nodes_of xs))) l in
+    let w = or_parts (is_some (first_failing (input_single xs) (inputs_of xs))) (is_some (first_failing (register_single xs) (registers_of xs))) (not_wide (wide xs) (NotYet (nodes_of xs)) p.1) in
+    eqb-true _ 1 (first_none (register_single xs) (registers_of xs) (none_here _ w.1) r h)
 
 -- so an input's bit has its number
 pub landed_lowerable : (xs : List ℕ) → reading_refusal xs ≡ None → small_refusal (design_in xs) ≡ None → lowering_refusal xs ≡ None → Lowerable xs

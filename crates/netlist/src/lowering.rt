@@ -4,6 +4,7 @@ ghost use Rattle.design.specs.Designs.{total};
 ghost use Rattle.design.specs.Numbers.{design_in};
 ghost use Rattle.design.specs.Encodings.{list_of, design_of, Counted};
 ghost use Rattle.netlist.specs.Building.{Lowering};
+ghost use Rattle.netlist.specs.NotYet.{lowering_refusal};
 ghost use Rattle.netlist.specs.Starts.{Marked};
 ghost use Rattle.netlist.specs.Lowerings.{LayAsks, LayGives, BuildAsks, BuildGives, Lowerable, RegistersIn, OutputsIn, netlist_of, Lowered, small_refusal, lower_refusal, words_refusal};
 
@@ -35,7 +36,8 @@ struct Task<'a> {
 }
 
 impl<'a> Task<'a> {
-    fn new(design: Encoded<'a>) -> Task<'a>
+    // That of a design of words.
+    fn of_words(design: Encoded<'a>) -> Task<'a>
         requires { Lowerable (list_of design) }
         ensures { list_of result.analysis.design ≡ list_of design.entry }
     {
@@ -43,6 +45,19 @@ impl<'a> Task<'a> {
             analysis: Analysis::new(design),
             inputs: Starts::new(design.inputs(), |i| design.input_width(i)),
             registers: Starts::new(design.registers(), |r| design.register(r).width),
+        }
+    }
+
+    // That of a design that has landed, so of single bits.
+    fn of_bits(design: Encoded<'a>) -> Task<'a>
+        requires lowerable { Lowerable (list_of design) }
+        requires landed { lowering_refusal (list_of design) ≡ None }
+        ensures { list_of result.analysis.design ≡ list_of design.entry }
+    {
+        Task {
+            analysis: Analysis::new(design),
+            inputs: Starts::Single,
+            registers: Starts::Single,
         }
     }
 
@@ -181,7 +196,7 @@ pub fn lower(design: Encoded<'_>) -> Result<Netlist, Refusal>
 {
     small(design)?;
     landed(design)?;
-    Ok(whole(&Task::new(design)))
+    Ok(whole(&Task::of_bits(design)))
 }
 
 // The netlist of a design of words of up to 64 bits, or the first reason why there is none.
@@ -196,5 +211,5 @@ pub fn lower_words(design: Encoded<'_>) -> Result<Netlist, Refusal>
             needed: counts.tracks,
         });
     }
-    Ok(whole(&Task::new(design)))
+    Ok(whole(&Task::of_words(design)))
 }

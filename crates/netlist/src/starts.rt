@@ -12,11 +12,13 @@ fn bits_up_to<F: Fn(u16) -> u16>(bits: u16, from: u16, word: u16, width: F) -> u
     (from..word).fold(bits, |bits, j| bits.saturating_add(width(j)))
 }
 
-// How many bits come before each 64th word, so that at most 63 widths are summed for one word. There may be 65,535 words, and no heap for
-// a place of each; a sum over all words for each node would take words times nodes.
+// Where the words of a design begin. Where each is a single bit its number says it. Else it is marked how many bits come before each 64th
+// word, so that at most 63 widths are summed for one: there may be 65,535 words and no heap for a place of each, and a sum over all words
+// for each node would take words times nodes.
 #[derive(Clone, Copy)]
-pub(crate) struct Starts {
-    pub(crate) marks: [u16; 1024],
+pub(crate) enum Starts {
+    Single,
+    Marks([u16; 1024]),
 }
 
 impl Starts {
@@ -34,16 +36,21 @@ impl Starts {
                 |j| width(j),
             );
         }
-        Starts { marks }
+        Starts::Marks(marks)
     }
 
-    // How many bits the words before that one have, which are marked; 65,535 stands for more.
+    // How many bits the words before that one have, where the words are known to begin so; 65,535 stands for more.
     pub(crate) fn before<F: Fn(u16) -> u16>(&self, word: u16, width: F) -> u16
         requires { F.IsAlwaysCallable width }
         ensures { (words : ℕ) (widths : ℕ → ℕ) → Marked self.now words widths → word ≤ words →
             ((j w : ℕ) → j < word → F.post width j w → w ≡ widths j) → result ≡ min 65535 (total word widths) }
     {
-        let q = word / 64;
-        bits_up_to(self.marks[q as usize], 64 * q, word, width)
+        match self {
+            Starts::Single => word,
+            Starts::Marks(marks) => {
+                let q = word / 64;
+                bits_up_to(marks[q as usize], 64 * q, word, width)
+            }
+        }
     }
 }

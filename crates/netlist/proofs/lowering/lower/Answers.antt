@@ -15,8 +15,8 @@ returns-in_err-landed c =
     let p = err_from_is_err_and c.from_residual-in_err-landed.result c.from_residual-in_err-landed.ensures.1 in
     rw (p.1, p.2) (lower_passes _ c.in_ok-small.ensures.0 ∙ c.in_err-landed.ensures)
 
-pub new-requires : goal.new-requires
-new-requires c = landed_lowerable _ (not_refused _ c.args.design.readable) c.in_ok-small.ensures.0 c.in_ok-landed.ensures
+pub of_bits-requires : goal.of_bits-requires
+of_bits-requires c = record { lowerable = landed_lowerable _ (not_refused _ c.args.design.readable) c.in_ok-small.ensures.0 c.in_ok-landed.ensures; landed = c.in_ok-landed.ensures }
 
 pub returns : goal.returns
-returns c = (lower_passes _ c.in_ok-small.ensures.0 ∙ c.in_ok-landed.ensures, rw c.new.ensures at c.whole.ensures)
+returns c = (lower_passes _ c.in_ok-small.ensures.0 ∙ c.in_ok-landed.ensures, rw c.of_bits.ensures at c.whole.ensures)

@@ -14,12 +14,12 @@ returns-then-counts-gt65535 c =
     let k = c.in_ok-counts.ensures in
     words_tracks _ _ k.0 k.1.tracks c.if-counts-gt65535.true
 
-pub new-requires : goal.new-requires
-new-requires c =
+pub of_words-requires : goal.of_words-requires
+of_words-requires c =
     let k = c.in_ok-counts.ensures in
     lowerable _ _ (not_refused _ c.args.design.readable) k.0 k.1.tracks c.if-counts-gt65535.false
 
 pub returns : goal.returns
 returns c =
     let k = c.in_ok-counts.ensures in
-    (words_none _ _ k.0 k.1.tracks c.if-counts-gt65535.false, rw c.new.ensures at c.whole.ensures)
+    (words_none _ _ k.0 k.1.tracks c.if-counts-gt65535.false, rw c.of_words.ensures at c.whole.ensures)

@@ -25,4 +25,7 @@ loop-q-preserved g c =
     )
 
 pub returns : goal.returns
-returns g c = λ widths is k h. c.loop-q.invariant.1 widths is k (omega arith)
+returns g c = λ widths is. record {
+  single = λ e. absurd cc;
+  marks = λ ms e k h. let same : ms ≡ c.loop-q.marks = cc in rw same (c.loop-q.invariant.1 widths is k (omega arith));
+}

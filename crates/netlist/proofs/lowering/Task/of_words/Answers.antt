@@ -2,7 +2,7 @@ use Rattle.std.proofs.Common.{◌≡◌, ℕ, List, rules}
 use Rattle.design.specs.Numbers.{inputs_of, registers_of, design_in}
 use Rattle.netlist.specs.declared.starts.Starts.{Starts}
 use Rattle.netlist.specs.Starts.{Marked}
-use Rattle.netlist.proofs.lowering.Task.new.Goals as goal
+use Rattle.netlist.proofs.lowering.Task.of_words.Goals as goal
 
 inputs_marked : (xs : List ℕ) (s : Starts) (n : ℕ) → n ≡ inputs_of xs → Marked s n (design_in xs).input_width → Marked s (design_in xs).inputs (design_in xs).input_width
 unfolding design_in
