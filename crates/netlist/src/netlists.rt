@@ -6,8 +6,8 @@ ghost use Rattle.netlist.specs.Building.{blank, cell_at};
 use crate::parts::Cell;
 use arrayvec::ArrayVec;
 
-// So many cells, and for each output bit the cell that shows it. Arrays and no `ArrayVec`: with it a netlist could not be `Copy`, and its
-// length would say again, of the output bits, what the design says.
+// So many cells, in the first places, past which each shows 0, and for each output bit the cell that shows it. Arrays and no `ArrayVec`,
+// which is no `Copy`.
 #[derive(Clone, Copy)]
 pub struct Netlist {
     cells: [Cell; 1024],
