@@ -105,7 +105,8 @@ pub fn read_entry<'a>(words: &[&'a str], line: usize) -> Option<Entry<'a>>
     }
 }
 
-// What the line of that number says, if it can be read, from its text.
+// What the line of that number says, if it can be read, from its text. Its words go into an array with their count beside it: a `Vec`
+// could fail for want of memory.
 pub fn read_line<'a>(text: &'a str, line: usize) -> Option<Entry<'a>>
     ensures { IfSome result (λ e. TextSays text.now line e) }
 {

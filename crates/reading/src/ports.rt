@@ -11,7 +11,7 @@ use std::collections::BTreeMap;
 
 // Where a bit is, and the line that says so; the rest of its seat is known from the port and the bit's number.
 #[derive(Clone, Copy)]
-pub(crate) struct Spot {
+pub(crate) struct Noted {
     pin: Pin,
     line: usize,
 }
@@ -20,7 +20,7 @@ pub(crate) struct Spot {
 #[derive(Drop)]
 struct DraftPort<'a> {
     name: &'a str,
-    bits: BTreeMap<u16, Spot>,
+    bits: BTreeMap<u16, Noted>,
 }
 
 impl DraftPort<'_> {
@@ -58,8 +58,8 @@ impl<'a> DraftPorts<'a> {
         &mut self,
         heap: Global,
         seat: Seat<'a>,
-    ) -> Result<Option<Spot>, AllocError> {
-        let spot = Spot {
+    ) -> Result<Option<Noted>, AllocError> {
+        let spot = Noted {
             pin: seat.pin,
             line: seat.line,
         };
