@@ -162,7 +162,9 @@ fn lay_outputs(task: &Task<'_>, work: &mut Work)
     }
 }
 
-// The netlist of a design that can be lowered.
+// The netlist of a design that can be lowered. Never inlined: the work takes some 300 KB of stack, which a caller would pay for designs too
+// that it turns away.
+#[inline(never)]
 fn whole(task: &Task<'_>) -> Netlist
     ensures { Lowering (design_of task.now.analysis.design) (netlist_of result) }
 {

@@ -29,11 +29,11 @@ impl DraftPort<'_> {
         ensures { IfErr result (λ u. Standing u) }
     {
         let mut pins = Vec::new(heap);
-        for (bit, spot) in self.bits.iter() {
+        for (bit, noted) in self.bits.iter() {
             if usize::from(*bit) != pins.len() {
-                return Err(Unread::misplaced(spot.line));
+                return Err(Unread::misplaced(noted.line));
             }
-            pins.push(spot.pin)?;
+            pins.push(noted.pin)?;
         }
         let name = String::from_str(heap, self.name)?;
         Ok(Port { name, pins })
@@ -59,15 +59,15 @@ impl<'a> DraftPorts<'a> {
         heap: Global,
         seat: Seat<'a>,
     ) -> Result<Option<Noted>, AllocError> {
-        let spot = Noted {
+        let noted = Noted {
             pin: seat.pin,
             line: seat.line,
         };
         match self.ports.iter_mut().find(|port| port.name == seat.name) {
-            Some(port) => Ok(port.bits.insert(seat.bit, spot)?),
+            Some(port) => Ok(port.bits.insert(seat.bit, noted)?),
             None => {
                 let mut bits = BTreeMap::new(heap);
-                bits.insert(seat.bit, spot)?;
+                bits.insert(seat.bit, noted)?;
                 self.ports.push(DraftPort {
                     name: seat.name,
                     bits,

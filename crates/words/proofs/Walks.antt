@@ -76,15 +76,7 @@ some_lines text =
     let s = some_pieces 10 text in
     (take (line_count (s.first ∷ s.others)) (s.first ∷ s.others), record { pieces = s.first ∷ s.others; cut = s.cut; kept = refl })
 
-pub some_words : (line : List ℕ) → (ws : List (Bor (List ℕ))) × Words line ws
-some_words line =
-    let s = some_pieces 32 line in
-    (filter some_byte (s.first ∷ s.others), record { pieces = s.first ∷ s.others; cut = s.cut; kept = refl })
-
 -- ---- a line before others
-pub no_lines : Lines [] []
-no_lines = record { pieces = nothing ∷ []; cut = one_piece 10 nothing (lacks_nothing 10); kept = refl }
-
 one_more : (l q : Bor (List ℕ)) (ps : List (Bor (List ℕ))) → line_count (l ∷ q ∷ ps) ≡ suc (line_count (q ∷ ps))
 one_more l q ps = grind (arith, nat_tests)
 
@@ -274,10 +266,3 @@ numbered_in text s t u xs x e none y step =
     let at = numbered_line text s t u xs x e none y step in
     let gone : List (Bor (List ℕ)) = map (λ p. p.1) xs in
     (gone ++ (x.1 ∷ at.0.0), at.0.1, omega (arith, at.1, length-append gone (x.1 ∷ at.0.0), length-map xs (λ (p : ℕ × Bor (List ℕ)). p.1)))
-
--- and it has gone over all of them
-pub numbered_lines : (text : List ℕ) (s t u : Enumerate LinesLeft) (xs : List (ℕ × Bor (List ℕ))) → (enumerate_source s).rest.now ≡ text →
-    Yields (enumerate_steps LineStep) s xs t → enumerate_steps LineStep t None u → Lines text (map (λ p. p.1) xs)
-numbered_lines text s t u xs e y end =
-    let far = numbered_so_far s t xs y in
-    subst (λ (a : List ℕ). Lines a (map (λ p. p.1) xs)) e (subst (λ (ls : List (Bor (List ℕ))). Lines (enumerate_source s).rest.now ls) (append-nil (map (λ p. p.1) xs)) (far.0 [] end.0.0))

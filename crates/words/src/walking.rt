@@ -10,6 +10,7 @@ pub struct Lines<'a> {
 }
 
 impl<'a> Lines<'a> {
+    // The lines of a text, from its first.
     pub fn new(text: &'a str) -> Lines<'a>
         ensures { result.rest.now ≡ text.now }
     {
@@ -41,6 +42,7 @@ pub struct Words<'a> {
 }
 
 impl<'a> Words<'a> {
+    // The words of a line, from its first.
     pub fn new(line: &'a str) -> Words<'a>
         ensures { result.rest.now ≡ line.now }
     {

@@ -1,4 +1,4 @@
-use Rattle.std.proofs.Common.{◌≡◌, ◌<◌, ◌∷◌, [], ◌++◌, ◌∙◌, ap, length, length-append, length-set, ℕ, List, Bor, IfSome, Option, Some, None, take, subst, sym, arith}
+use Rattle.std.proofs.Common.{◌<◌, ◌∷◌, [], ◌++◌, ◌∙◌, ap, length, length-append, length-set, ℕ, List, Bor, IfSome, Option, Some, None, subst, sym, arith}
 use Rattle.std.proofs.lemmas.List.{take_more_set}
 use Rattle.words.specs.Cuts.{Words}
 use Rattle.words.proofs.Walks.{all_words}

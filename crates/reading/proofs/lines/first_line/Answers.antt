@@ -1,4 +1,4 @@
-use Rattle.std.proofs.Common.{◌≡◌, ℕ, List, [], ◌∷◌, Bor, Option, Some, None, refl, sym, subst, ap, ◌∙◌}
+use Rattle.std.proofs.Common.{◌≡◌, ℕ, List, [], ◌∷◌, Bor, Option, Some, None, refl, sym, subst}
 use Rattle.std.specs.Option.{unwrap_or}
 use Rattle.words.specs.Cuts.{NextLine}
 use Rattle.words.proofs.Walks.{some_lines}
